@@ -1,2 +1,4 @@
 mod DealLemmas
+mod Exits
 pub mod PassLemmas
+mod PauseLemmas

@@ -31,7 +31,8 @@ use Rattle.shared_parts.specs.declared.recorded.Posted.{Posted}
 use Rattle.shared_parts.specs.declared.recorded.SharedAnswer.{SharedAnswer}
 use Rattle.shared_parts.specs.declared.recorded.SharedAnswer.TheVariants as answers
 use Rattle.shared_tee.specs.Passes.{FindsNothing, GoesOn, IsPass, IsPassOf, IsRefused, IsTurnRefused, Makes, MakesOneTurn, MakesNothing, MissesOwnCell, OthersWentOn, PassView, Places, Posts}
-use Rattle.shared_tee.specs.Passes.{STORAGE_CELL, log_in, log_of, origin_in, own_of}
+use Rattle.shared_tee.specs.declared.names.TheConstants.{STORAGE_CELL}
+use Rattle.shared_tee.specs.Passes.{log_in, log_of, origin_in, own_of}
 
 -- ---- trails
 
@@ -238,6 +239,10 @@ module _ {V A : Type 0} (K : VolumeKeeper V) (behaviour : Behaviour A) (p : Pass
     pub is_pass_then : IsPass K behaviour (then id w)
     is_pass_then = subst (λ (x : SeatView ClientPart (HostedEvent V A)). IsPass K behaviour (then id x)) (sym seat_is) (passed id turn)
 
+    -- no try of it found the application's cell taken
+    pub tries_then : w.misses ≡ p.seat.misses
+    tries_then = ap (λ (x : SeatView ClientPart (HostedEvent V A)). x.misses) seat_is
+
     -- it knows the log as it was given
     pub log_then : log_of (then id w) ≡ now.log
     log_then = ap (λ (x : SeatView ClientPart (HostedEvent V A)). log_in x.trail) seat_is ∙ log_with now.origin now.log
@@ -261,7 +266,7 @@ module _ {V A : Type 0} (K : VolumeKeeper V) (behaviour : Behaviour A) (p : Pass
     of_then places of =
         let first : Some of.origin ≡ Some g.takes.is.origin = sym of.origin_is ∙ ap (λ (t : List (HostedEvent V A)). origin_in t) g.takes.is.trail in
         let same : now.origin ≡ of.origin = g.origin ∙ same_origin K behaviour p h g.takes ∙ sym (let e : of.origin ≡ g.takes.is.origin = cc (first) in e) in
-        record { cell = of.cell ∙ ap (λ (c : TableId). Some c) (sym same_cell); origin = now.origin; origin_is = origin_then; storage = ap (λ (o : Origin V A). o.storage) same ∙ of.storage }
+        record { cell = of.cell ∙ ap (λ (c : TableId). Some c) (sym same_cell); origin = now.origin; origin_is = origin_then; storage = ap (λ (o : Origin V A). o.storage) same ∙ of.storage; index = ap (λ (o : Origin V A). o.machine.index) same ∙ of.index }
 
 -- ---- a call that is made, or refused
 
@@ -314,6 +319,7 @@ module _ {V A : Type 0} (K : VolumeKeeper V) (behaviour : Behaviour A) (p : Pass
     room = room;
     adds = subst (λ (log : List Logged). Adds p.client event h.log log) (sym (log_then K behaviour p h now (missed_by h.misses p.client) g id same_cell u w turn taken given)) adds;
     missed = missed_still;
+    tries = tries_then K behaviour p h now (missed_by h.misses p.client) g id same_cell u w turn taken given;
   }
 
   -- one that wasn't
@@ -325,6 +331,7 @@ module _ {V A : Type 0} (K : VolumeKeeper V) (behaviour : Behaviour A) (p : Pass
         own = part_then K behaviour p h now (missed_by h.misses p.client) g id same_cell u w turn taken given
             ∙ ap (λ (ls : List Logged). (let c : ClientPart = record { made = entries_by p.client ls; missed = missed_by h.misses p.client } in c)) same
             ∙ sym (own_found K behaviour p h g.takes);
+        tries = tries_then K behaviour p h now (missed_by h.misses p.client) g id same_cell u w turn taken given;
       }
 
   -- a client's call that was made, or refused
@@ -408,6 +415,7 @@ module _ {V A : Type 0} (K : VolumeKeeper V) (behaviour : Behaviour A) (p : Pass
     origin = of.origin;
     origin_is = ap (λ (x : SeatView ClientPart (HostedEvent V A)). origin_in x.trail) missed ∙ of.origin_is;
     storage = of.storage;
+    index = of.index;
   }
 
   -- it missed, and that is all that changed
@@ -437,7 +445,7 @@ module _ {V A : Type 0} (p : PassView V A) where
   pub of_counted : (places : Places) (old : PassView V A) → p ≡ old → IsPassOf places old → IsPassOf places counted_more
   of_counted places old same of =
       let own : IsPassOf places p = subst (λ (x : PassView V A). IsPassOf places x) (sym same) of in
-      record { cell = own.cell; origin = own.origin; origin_is = own.origin_is; storage = own.storage }
+      record { cell = own.cell; origin = own.origin; origin_is = own.origin_is; storage = own.storage; index = own.index }
 
 -- ---- a look
 
@@ -545,6 +553,9 @@ module _ {V A : Type 0} (K : VolumeKeeper V) (behaviour : Behaviour A) (p : Pass
     part_turned : own_of turned ≡ (let c : ClientPart = record { made = entries_by p.client now.log; missed = missed_by now.misses p.client } in c)
     part_turned = part_then K behaviour p h now (missed_by now.misses p.client) g id same_cell u w turn taken given
 
+    tries_turned : w.misses ≡ p.seat.misses
+    tries_turned = tries_then K behaviour p h now (missed_by now.misses p.client) g id same_cell u w turn taken given
+
     part_before : own_of p ≡ (let c : ClientPart = record { made = entries_by p.client h.log; missed = missed_by h.misses p.client } in c)
     part_before = own_found K behaviour p h takes
 
@@ -562,6 +573,7 @@ module _ {V A : Type 0} (K : VolumeKeeper V) (behaviour : Behaviour A) (p : Pass
           ∙ ap (λ (ls : List Logged). (let c : ClientPart = record { made = entries_by p.client ls; missed = missed_by now.misses p.client } in c)) same
           ∙ ap (λ (ms : List Missed). (let c : ClientPart = record { made = entries_by p.client h.log; missed = missed_by ms p.client } in c)) misses
           ∙ sym part_before;
+      tries = tries_turned;
     }
 
     -- a turn that was made
@@ -573,6 +585,7 @@ module _ {V A : Type 0} (K : VolumeKeeper V) (behaviour : Behaviour A) (p : Pass
       room = room;
       makes = subst (λ (log : List Logged). MakesTurn p.client (event_of kind i) h.log log) (sym log_turned) made;
       missed = missed_turned same;
+      tries = tries_turned;
     }
     turned_ok (Err e) made room same = tt
 
@@ -592,6 +605,7 @@ module _ {V A : Type 0} (K : VolumeKeeper V) (behaviour : Behaviour A) (p : Pass
             missed =
                 ap (λ (c : ClientPart). c.missed) part_turned ∙ missed_here busy.word why.2
                 ∙ ap (λ (m : Missed). missed_more m busy.word) (sym (ap (λ (c : ClientPart). c.missed) part_before));
+            tries = tries_turned;
           };
           origin = h.origin;
           origin_is =

@@ -17,6 +17,7 @@ use Rattle.shared_parts.specs.StorageTurns.{MakesTurn}
 use Rattle.shared_parts.specs.declared.recorded.Posted.{Posted}
 use Rattle.shared_parts.specs.declared.recorded.SharedAnswer.{SharedAnswer}
 use Rattle.shared_parts.specs.declared.recorded.SharedAnswer.TheVariants as answers
+use Rattle.shared_tee.specs.declared.names.TheConstants.{STORAGE_CELL}
 
 -- what is seen of a pass: its application, its client, how many calls it made, the application's cell, and what it knows of that
 pub record PassView (V A : Type 0) : Type 0 where
@@ -30,10 +31,6 @@ pub record PassView (V A : Type 0) : Type 0 where
 pub record Places : Type 0 where
   pub cells : List TableId
   pub storage : TableId
-
--- the name of the storage's cell
-abbrev pub STORAGE_CELL : ℕ
-STORAGE_CELL = 16
 
 module _ {V A : Type 0} where
   -- the origin of a trail
@@ -73,25 +70,35 @@ module _ {V A : Type 0} (K : VolumeKeeper V) (behaviour : Behaviour A) where
     pub legal : IsMarked K origin.opened → IsLegal behaviour origin.machine (log_of p)
 
 module _ {V A : Type 0} where
-  -- the pass is one of the runtime with these cells: its cell is its application's, and its origin names the storage's cell
+  -- the pass is one of the runtime with these cells: its cell is its application's, and its origin names the storage's cell and the
+  -- place of the application
   pub record IsPassOf (places : Places) (p : PassView V A) : Type 0 where
     pub cell : slice_get places.cells p.app ≡ Some p.cell
     pub origin : Origin V A
     pub origin_is : origin_in p.seat.trail ≡ Some origin
     pub storage : origin.storage ≡ places.storage
+    pub index : origin.machine.index ≡ p.app
 
-  -- a call leaves whose pass it is, and the pass knows no less than before
-  pub record GoesOn (old new : PassView V A) : Type 0 where
+  -- it stays whose pass it is, made so many calls more, and knows no less than before
+  pub record GoesOnBy (made : ℕ) (old new : PassView V A) : Type 0 where
     pub app : new.app ≡ old.app
     pub client : new.client ≡ old.client
     pub cell : new.cell ≡ old.cell
-    pub calls : new.calls ≡ old.calls + 1
+    pub calls : new.calls ≡ old.calls + made
     pub trail : IsPrefix old.seat.trail new.seat.trail
+
+  -- it made one call
+  abbrev pub GoesOn : PassView V A → PassView V A → Type 0
+  GoesOn old new = GoesOnBy 1 old new
 
   -- what a pass knows after others went on is what it knew, and then entries that aren't its own
   pub record OthersWentOn (p : PassView V A) (before : List Logged) : Type 0 where
     pub goes_on : IsPrefix (log_of p) before
     pub none_own : entries_by p.client before ≡ entries_by p.client (log_of p)
+
+  -- no try of it found the application's cell taken
+  abbrev pub TookAtOnce : PassView V A → PassView V A → Type 0
+  TookAtOnce old new = new.seat.misses ≡ old.seat.misses
 
   -- a call was made: the log that is known then ends with its entry, behind entries that aren't the pass's own
   pub record Makes (event : Event) (bytes : ℕ) (old new : PassView V A) : Type 0 where
@@ -100,6 +107,7 @@ module _ {V A : Type 0} where
     pub room : is_full before bytes ≡ false
     pub adds : Adds old.client event before (log_of new)
     pub missed : (own_of new).missed ≡ (own_of old).missed
+    pub tries : TookAtOnce old new
 
   -- the same of a turn, which may have found the loss of the storage first
   pub record MakesOneTurn (event : Event) (old new : PassView V A) : Type 0 where
@@ -108,11 +116,13 @@ module _ {V A : Type 0} where
     pub room : is_full before 0 ≡ false
     pub makes : MakesTurn old.client event before (log_of new)
     pub missed : (own_of new).missed ≡ (own_of old).missed
+    pub tries : TookAtOnce old new
 
   -- nothing was made of the pass's own
   pub record MakesNothing (old new : PassView V A) : Type 0 where
     pub others : OthersWentOn old (log_of new)
     pub own : own_of new ≡ own_of old
+    pub tries : TookAtOnce old new
 
   -- its try found the application's cell taken, by this word
   abbrev pub MissesOwnCell : ℕ → PassView V A → PassView V A → Type 0
@@ -147,6 +157,7 @@ module _ {V A : Type 0} where
     pub others : OthersWentOn old (log_of new)
     pub made : (own_of new).made ≡ (own_of old).made
     pub missed : (own_of new).missed ≡ missed_more (own_of old).missed word
+    pub tries : TookAtOnce old new
 
 -- behaviour has the applications' two stated functions
 module _ {V A : Type 0} (K : VolumeKeeper V) (behaviour : Behaviour A) where

@@ -188,4 +188,25 @@ impl<V: Volume, A: Application> Pass<V, A> {
     {
         let _calls = &self.calls;
     }
+
+    /// The place of its application among the hosts.
+    pub fn app(&self) -> u8
+        ensures { result ≡ self.now.app }
+    {
+        self.app
+    }
+
+    /// The number of its client.
+    pub fn client(&self) -> u8
+        ensures { result ≡ self.now.client }
+    {
+        self.client
+    }
+
+    /// How many calls it made.
+    pub fn calls(&self) -> u64
+        ensures { result ≡ self.now.calls }
+    {
+        self.calls
+    }
 }

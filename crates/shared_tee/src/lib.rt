@@ -7,9 +7,12 @@
 mod calls;
 mod dealing;
 mod looking;
+mod names;
 mod pass;
+mod pausing;
 mod shared;
 mod turning;
 
+pub use names::STORAGE_CELL;
 pub use pass::Pass;
 pub use shared::SharedTeeOver;

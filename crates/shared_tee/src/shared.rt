@@ -1,5 +1,6 @@
 //! The cells of all applications, and that of the storage.
 
+use alone::AppLog;
 use app_api::Application;
 use shared_parts::{HostedApp, Storage};
 use std::alloc::Global;
@@ -15,6 +16,8 @@ pub struct SharedTeeOver<V: Volume, A: Application> {
     pub(crate) cells: Vec<TurnCell<HostedApp<V, A>>>,
     /// The storage's cell, which is named 16.
     pub(crate) storage: TurnCell<Storage<V, A>>,
+    /// Room for the log of each application.
+    pub(crate) logs: Vec<AppLog>,
 }
 
 impl<V: Volume, A: Application> Model for SharedTeeOver<V, A> {
@@ -22,14 +25,10 @@ impl<V: Volume, A: Application> Model for SharedTeeOver<V, A> {
 
     ghost Value = { Places };
 
-    ghost use Rattle.std.specs.Prelude.{map};
-    ghost use Rattle.turn_cell.specs.Words.{cell_id};
-    ghost use Rattle.shared_tee.specs.Shared.{IsShared};
+    ghost use Rattle.std.specs.Prelude.{vec_capacity};
+    ghost use Rattle.shared_tee.specs.Shared.{IsShared, places_of};
 
-    ghost view = { λ s. record {
-      cells = map (λ c. cell_id c) s.cells.items;
-      storage = cell_id s.storage;
-    } };
+    ghost view = { λ s. places_of s.cells.items s.storage };
 
-    ghost invariant = { λ s. IsShared s.cells.items s.storage };
+    ghost invariant = { λ s. IsShared s.cells.items s.storage s.logs.items (vec_capacity s.logs) };
 }

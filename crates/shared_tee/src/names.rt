@@ -1,0 +1,4 @@
+//! How cells are named.
+
+/// The name of the storage's cell. An application's cell is named by its place.
+pub const STORAGE_CELL: u32 = 16;
