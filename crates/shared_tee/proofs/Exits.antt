@@ -43,7 +43,8 @@ module _ {V A : Type 0} (K : VolumeKeeper V) (behaviour : Behaviour A) where
     tried_in_vain was id w word is missed = record {
       is = is_pass_tried K behaviour p id (same id is) w word missed was;
       of = of_tried K behaviour p id (same id is) w word missed places own;
-      goes = subst (λ (x : PassView V A). GoesOn x (record { app = p.app; client = p.client; calls = p.calls + 1; cell = id; seat = w })) view_is (goes_tried K behaviour p id (same id is) w word missed);
+      goes = subst (λ (x : PassView V A). GoesOn x (record { app = p.app; client = p.client; calls = p.calls + 1; cell = id; seat = w })) view_is (goes_tried K behaviour p id (same id
+          is) w word missed);
       misses = misses_tried K behaviour p id (same id is) w word missed;
       found = cell_at cells p.app cell (cell_within id_of cells p.app p.cell here) at;
     }

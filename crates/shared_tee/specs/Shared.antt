@@ -29,7 +29,8 @@ module _ {V A : Type 0} where
     pub eight : HasEightParts c
 
   -- there is such a cell for each application, and one for the storage, whose value has a part for each of them
-  pub record IsShared (cells : List (TurnCell (HostedView V A) ClientPart (HostedEvent V A))) (storage : TurnCell (StorageView V) StoragePart (StorageEntry V)) (logs : List KeptLog) (log_room : ℕ) : Type 0 where
+  pub record IsShared (cells : List (TurnCell (HostedView V A) ClientPart (HostedEvent V A))) (storage : TurnCell (StorageView V) StoragePart (StorageEntry V)) (logs : List KeptLog)
+      (log_room : ℕ) : Type 0 where
     pub some : 0 < length cells
     pub few : length cells ≤ MAX_HOSTS
     pub each : (app : ℕ) (c : TurnCell (HostedView V A) ClientPart (HostedEvent V A)) → slice_get cells app ≡ Some c → IsAppCell app c

@@ -27,7 +27,8 @@ invariant_of-pass g c =
     let p : PassView g.row.V.Denot g.row.A.Denot = record { app = s.app; client = s.client; calls = s.calls; cell = cell_id_of s.seat; seat = known s.seat } in
     let took = c.take-hosted.ensures in
     (paused_back g.V.Volume.keeper g.A.Application.behaviour (λ x. cell_id x) t.cells.items c.index-own.result.now (cell_id t.storage) c.args.self.now p c.args.pass.now c.pass.view_is
-    c.pass.invariant c.requires.of c.self.view_is c.index-own.ensures h u took.others took.continues.0 took.continues.1 c.keeps.ensures h refl (cell_id_of c.give.new.seat) c.give.ensures.own (known c.give.new.seat) c.give.ensures.given).is
+    c.pass.invariant c.requires.of c.self.view_is c.index-own.ensures h u took.others took.continues.0 took.continues.1 c.keeps.ensures h refl (cell_id_of c.give.new.seat)
+    c.give.ensures.own (known c.give.new.seat) c.give.ensures.given).is
 
 pub returns-then-cell-ne-STORAGE_CELL-clause-of : goal.returns-then-cell-ne-STORAGE_CELL-clause-of
 returns-then-cell-ne-STORAGE_CELL-clause-of g c =
@@ -38,7 +39,8 @@ returns-then-cell-ne-STORAGE_CELL-clause-of g c =
     let p : PassView g.row.V.Denot g.row.A.Denot = record { app = s.app; client = s.client; calls = s.calls; cell = cell_id_of s.seat; seat = known s.seat } in
     let took = c.take-hosted.ensures in
     (paused_back g.V.Volume.keeper g.A.Application.behaviour (λ x. cell_id x) t.cells.items c.index-own.result.now (cell_id t.storage) c.args.self.now p c.args.pass.now c.pass.view_is
-    c.pass.invariant c.requires.of c.self.view_is c.index-own.ensures h u took.others took.continues.0 took.continues.1 c.keeps.ensures h refl (cell_id_of c.give.new.seat) c.give.ensures.own (known c.give.new.seat) c.give.ensures.given).of
+    c.pass.invariant c.requires.of c.self.view_is c.index-own.ensures h u took.others took.continues.0 took.continues.1 c.keeps.ensures h refl (cell_id_of c.give.new.seat)
+    c.give.ensures.own (known c.give.new.seat) c.give.ensures.given).of
 
 pub returns-then-cell-ne-STORAGE_CELL-clause-goes : goal.returns-then-cell-ne-STORAGE_CELL-clause-goes
 returns-then-cell-ne-STORAGE_CELL-clause-goes g c =
@@ -49,7 +51,8 @@ returns-then-cell-ne-STORAGE_CELL-clause-goes g c =
     let p : PassView g.row.V.Denot g.row.A.Denot = record { app = s.app; client = s.client; calls = s.calls; cell = cell_id_of s.seat; seat = known s.seat } in
     let took = c.take-hosted.ensures in
     (paused_back g.V.Volume.keeper g.A.Application.behaviour (λ x. cell_id x) t.cells.items c.index-own.result.now (cell_id t.storage) c.args.self.now p c.args.pass.now c.pass.view_is
-    c.pass.invariant c.requires.of c.self.view_is c.index-own.ensures h u took.others took.continues.0 took.continues.1 c.keeps.ensures h refl (cell_id_of c.give.new.seat) c.give.ensures.own (known c.give.new.seat) c.give.ensures.given).goes
+    c.pass.invariant c.requires.of c.self.view_is c.index-own.ensures h u took.others took.continues.0 took.continues.1 c.keeps.ensures h refl (cell_id_of c.give.new.seat)
+    c.give.ensures.own (known c.give.new.seat) c.give.ensures.given).goes
 
 pub returns-then-cell-ne-STORAGE_CELL-clause-same : goal.returns-then-cell-ne-STORAGE_CELL-clause-same
 returns-then-cell-ne-STORAGE_CELL-clause-same g c =
@@ -60,7 +63,8 @@ returns-then-cell-ne-STORAGE_CELL-clause-same g c =
     let p : PassView g.row.V.Denot g.row.A.Denot = record { app = s.app; client = s.client; calls = s.calls; cell = cell_id_of s.seat; seat = known s.seat } in
     let took = c.take-hosted.ensures in
     (paused_back g.V.Volume.keeper g.A.Application.behaviour (λ x. cell_id x) t.cells.items c.index-own.result.now (cell_id t.storage) c.args.self.now p c.args.pass.now c.pass.view_is
-    c.pass.invariant c.requires.of c.self.view_is c.index-own.ensures h u took.others took.continues.0 took.continues.1 c.keeps.ensures h refl (cell_id_of c.give.new.seat) c.give.ensures.own (known c.give.new.seat) c.give.ensures.given).same
+    c.pass.invariant c.requires.of c.self.view_is c.index-own.ensures h u took.others took.continues.0 took.continues.1 c.keeps.ensures h refl (cell_id_of c.give.new.seat)
+    c.give.ensures.own (known c.give.new.seat) c.give.ensures.given).same
 
 -- ---- the storage's cell
 
@@ -80,7 +84,8 @@ give-requires-3-clause-parts g c =
     let apart = c.unseat-unseated.result.0 in
     let v = known c.unseat-unseated.result.1 in
     let there : cell_id_of c.give-2.new.seat ≡ cell_id_of c.unseat-unseated.result.1 =
-    c.give-2.ensures.own ∙ paused_storage g.V.Volume.keeper g.A.Application.behaviour (λ x. cell_id x) t.cells.items c.index-own.result.now (cell_id t.storage) c.args.self.now p c.args.pass.now c.pass.view_is
+    c.give-2.ensures.own ∙ paused_storage g.V.Volume.keeper g.A.Application.behaviour (λ x. cell_id x) t.cells.items c.index-own.result.now (cell_id t.storage) c.args.self.now p
+        c.args.pass.now c.pass.view_is
     c.pass.invariant c.requires.of c.self.view_is c.index-own.ensures h u took.others took.continues.0 took.continues.1 c.keeps.ensures ∙ sym x.cell in
     let same : c.seat.result ≡ h =
     c.seat.ensures v (subst (λ (i : TableId). FitsSeat g.V.Volume.keeper g.A.Application.behaviour apart i v) (sym there) x.fits)
@@ -102,7 +107,8 @@ give-requires-3-clause-trail g c =
     let apart = c.unseat-unseated.result.0 in
     let v = known c.unseat-unseated.result.1 in
     let there : cell_id_of c.give-2.new.seat ≡ cell_id_of c.unseat-unseated.result.1 =
-    c.give-2.ensures.own ∙ paused_storage g.V.Volume.keeper g.A.Application.behaviour (λ x. cell_id x) t.cells.items c.index-own.result.now (cell_id t.storage) c.args.self.now p c.args.pass.now c.pass.view_is
+    c.give-2.ensures.own ∙ paused_storage g.V.Volume.keeper g.A.Application.behaviour (λ x. cell_id x) t.cells.items c.index-own.result.now (cell_id t.storage) c.args.self.now p
+        c.args.pass.now c.pass.view_is
     c.pass.invariant c.requires.of c.self.view_is c.index-own.ensures h u took.others took.continues.0 took.continues.1 c.keeps.ensures ∙ sym x.cell in
     let same : c.seat.result ≡ h =
     c.seat.ensures v (subst (λ (i : TableId). FitsSeat g.V.Volume.keeper g.A.Application.behaviour apart i v) (sym there) x.fits)
@@ -124,7 +130,8 @@ invariant_of-pass-2 g c =
     let apart = c.unseat-unseated.result.0 in
     let v = known c.unseat-unseated.result.1 in
     let there : cell_id_of c.give-2.new.seat ≡ cell_id_of c.unseat-unseated.result.1 =
-    c.give-2.ensures.own ∙ paused_storage g.V.Volume.keeper g.A.Application.behaviour (λ x. cell_id x) t.cells.items c.index-own.result.now (cell_id t.storage) c.args.self.now p c.args.pass.now c.pass.view_is
+    c.give-2.ensures.own ∙ paused_storage g.V.Volume.keeper g.A.Application.behaviour (λ x. cell_id x) t.cells.items c.index-own.result.now (cell_id t.storage) c.args.self.now p
+        c.args.pass.now c.pass.view_is
     c.pass.invariant c.requires.of c.self.view_is c.index-own.ensures h u took.others took.continues.0 took.continues.1 c.keeps.ensures ∙ sym x.cell in
     let same : c.seat.result ≡ h =
     c.seat.ensures v (subst (λ (i : TableId). FitsSeat g.V.Volume.keeper g.A.Application.behaviour apart i v) (sym there) x.fits)
@@ -132,7 +139,8 @@ invariant_of-pass-2 g c =
     c.take-storage.result.trail c.take-storage.ensures.others c.take-storage.ensures.continues.0 c.take-storage.ensures.continues.1 c.give-2.ensures.given)
     ∙ ap (λ (i : TableId). seated_view apart i v) there ∙ sym x.value in
     (paused_back g.V.Volume.keeper g.A.Application.behaviour (λ x. cell_id x) t.cells.items c.index-own.result.now (cell_id t.storage) c.args.self.now p c.args.pass.now c.pass.view_is
-    c.pass.invariant c.requires.of c.self.view_is c.index-own.ensures h u took.others took.continues.0 took.continues.1 c.keeps.ensures c.seat.result same (cell_id_of c.give-3.new.seat) c.give-3.ensures.own (known c.give-3.new.seat) c.give-3.ensures.given).is
+    c.pass.invariant c.requires.of c.self.view_is c.index-own.ensures h u took.others took.continues.0 took.continues.1 c.keeps.ensures c.seat.result same (cell_id_of
+    c.give-3.new.seat) c.give-3.ensures.own (known c.give-3.new.seat) c.give-3.ensures.given).is
 
 pub returns-clause-of : goal.returns-clause-of
 returns-clause-of g c =
@@ -146,7 +154,8 @@ returns-clause-of g c =
     let apart = c.unseat-unseated.result.0 in
     let v = known c.unseat-unseated.result.1 in
     let there : cell_id_of c.give-2.new.seat ≡ cell_id_of c.unseat-unseated.result.1 =
-    c.give-2.ensures.own ∙ paused_storage g.V.Volume.keeper g.A.Application.behaviour (λ x. cell_id x) t.cells.items c.index-own.result.now (cell_id t.storage) c.args.self.now p c.args.pass.now c.pass.view_is
+    c.give-2.ensures.own ∙ paused_storage g.V.Volume.keeper g.A.Application.behaviour (λ x. cell_id x) t.cells.items c.index-own.result.now (cell_id t.storage) c.args.self.now p
+        c.args.pass.now c.pass.view_is
     c.pass.invariant c.requires.of c.self.view_is c.index-own.ensures h u took.others took.continues.0 took.continues.1 c.keeps.ensures ∙ sym x.cell in
     let same : c.seat.result ≡ h =
     c.seat.ensures v (subst (λ (i : TableId). FitsSeat g.V.Volume.keeper g.A.Application.behaviour apart i v) (sym there) x.fits)
@@ -154,7 +163,8 @@ returns-clause-of g c =
     c.take-storage.result.trail c.take-storage.ensures.others c.take-storage.ensures.continues.0 c.take-storage.ensures.continues.1 c.give-2.ensures.given)
     ∙ ap (λ (i : TableId). seated_view apart i v) there ∙ sym x.value in
     (paused_back g.V.Volume.keeper g.A.Application.behaviour (λ x. cell_id x) t.cells.items c.index-own.result.now (cell_id t.storage) c.args.self.now p c.args.pass.now c.pass.view_is
-    c.pass.invariant c.requires.of c.self.view_is c.index-own.ensures h u took.others took.continues.0 took.continues.1 c.keeps.ensures c.seat.result same (cell_id_of c.give-3.new.seat) c.give-3.ensures.own (known c.give-3.new.seat) c.give-3.ensures.given).of
+    c.pass.invariant c.requires.of c.self.view_is c.index-own.ensures h u took.others took.continues.0 took.continues.1 c.keeps.ensures c.seat.result same (cell_id_of
+    c.give-3.new.seat) c.give-3.ensures.own (known c.give-3.new.seat) c.give-3.ensures.given).of
 
 pub returns-clause-goes : goal.returns-clause-goes
 returns-clause-goes g c =
@@ -168,7 +178,8 @@ returns-clause-goes g c =
     let apart = c.unseat-unseated.result.0 in
     let v = known c.unseat-unseated.result.1 in
     let there : cell_id_of c.give-2.new.seat ≡ cell_id_of c.unseat-unseated.result.1 =
-    c.give-2.ensures.own ∙ paused_storage g.V.Volume.keeper g.A.Application.behaviour (λ x. cell_id x) t.cells.items c.index-own.result.now (cell_id t.storage) c.args.self.now p c.args.pass.now c.pass.view_is
+    c.give-2.ensures.own ∙ paused_storage g.V.Volume.keeper g.A.Application.behaviour (λ x. cell_id x) t.cells.items c.index-own.result.now (cell_id t.storage) c.args.self.now p
+        c.args.pass.now c.pass.view_is
     c.pass.invariant c.requires.of c.self.view_is c.index-own.ensures h u took.others took.continues.0 took.continues.1 c.keeps.ensures ∙ sym x.cell in
     let same : c.seat.result ≡ h =
     c.seat.ensures v (subst (λ (i : TableId). FitsSeat g.V.Volume.keeper g.A.Application.behaviour apart i v) (sym there) x.fits)
@@ -176,7 +187,8 @@ returns-clause-goes g c =
     c.take-storage.result.trail c.take-storage.ensures.others c.take-storage.ensures.continues.0 c.take-storage.ensures.continues.1 c.give-2.ensures.given)
     ∙ ap (λ (i : TableId). seated_view apart i v) there ∙ sym x.value in
     (paused_back g.V.Volume.keeper g.A.Application.behaviour (λ x. cell_id x) t.cells.items c.index-own.result.now (cell_id t.storage) c.args.self.now p c.args.pass.now c.pass.view_is
-    c.pass.invariant c.requires.of c.self.view_is c.index-own.ensures h u took.others took.continues.0 took.continues.1 c.keeps.ensures c.seat.result same (cell_id_of c.give-3.new.seat) c.give-3.ensures.own (known c.give-3.new.seat) c.give-3.ensures.given).goes
+    c.pass.invariant c.requires.of c.self.view_is c.index-own.ensures h u took.others took.continues.0 took.continues.1 c.keeps.ensures c.seat.result same (cell_id_of
+    c.give-3.new.seat) c.give-3.ensures.own (known c.give-3.new.seat) c.give-3.ensures.given).goes
 
 pub returns-clause-same : goal.returns-clause-same
 returns-clause-same g c =
@@ -190,7 +202,8 @@ returns-clause-same g c =
     let apart = c.unseat-unseated.result.0 in
     let v = known c.unseat-unseated.result.1 in
     let there : cell_id_of c.give-2.new.seat ≡ cell_id_of c.unseat-unseated.result.1 =
-    c.give-2.ensures.own ∙ paused_storage g.V.Volume.keeper g.A.Application.behaviour (λ x. cell_id x) t.cells.items c.index-own.result.now (cell_id t.storage) c.args.self.now p c.args.pass.now c.pass.view_is
+    c.give-2.ensures.own ∙ paused_storage g.V.Volume.keeper g.A.Application.behaviour (λ x. cell_id x) t.cells.items c.index-own.result.now (cell_id t.storage) c.args.self.now p
+        c.args.pass.now c.pass.view_is
     c.pass.invariant c.requires.of c.self.view_is c.index-own.ensures h u took.others took.continues.0 took.continues.1 c.keeps.ensures ∙ sym x.cell in
     let same : c.seat.result ≡ h =
     c.seat.ensures v (subst (λ (i : TableId). FitsSeat g.V.Volume.keeper g.A.Application.behaviour apart i v) (sym there) x.fits)
@@ -198,4 +211,5 @@ returns-clause-same g c =
     c.take-storage.result.trail c.take-storage.ensures.others c.take-storage.ensures.continues.0 c.take-storage.ensures.continues.1 c.give-2.ensures.given)
     ∙ ap (λ (i : TableId). seated_view apart i v) there ∙ sym x.value in
     (paused_back g.V.Volume.keeper g.A.Application.behaviour (λ x. cell_id x) t.cells.items c.index-own.result.now (cell_id t.storage) c.args.self.now p c.args.pass.now c.pass.view_is
-    c.pass.invariant c.requires.of c.self.view_is c.index-own.ensures h u took.others took.continues.0 took.continues.1 c.keeps.ensures c.seat.result same (cell_id_of c.give-3.new.seat) c.give-3.ensures.own (known c.give-3.new.seat) c.give-3.ensures.given).same
+    c.pass.invariant c.requires.of c.self.view_is c.index-own.ensures h u took.others took.continues.0 took.continues.1 c.keeps.ensures c.seat.result same (cell_id_of
+    c.give-3.new.seat) c.give-3.ensures.own (known c.give-3.new.seat) c.give-3.ensures.given).same
