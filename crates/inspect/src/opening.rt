@@ -4,7 +4,7 @@ ghost use Rattle.std.specs.Prelude.{◌≡◌, ◌≤◌, ◌%◌, ℕ, Some, fa
 ghost use Rattle.board.specs.Moment.{IsCounter};
 ghost use Rattle.board.specs.Runs.{Rests};
 ghost use Rattle.epoch.specs.Forms.{held_in};
-ghost use Rattle.inspect.specs.Openings.{IsFoundSound, IsUnread};
+ghost use Rattle.inspect.specs.Openings.{IsFoundSound, IsUnread, found_by};
 ghost use Rattle.store_api.specs.Volumes.{Held};
 ghost use Rattle.old_volume.specs.Versions.{volume_form};
 ghost use Rattle.tree_paths.specs.declared.places.TheConstants.{TREE_BLOCKS};
@@ -15,6 +15,7 @@ use epoch::{BoardVolume, OpenAnswer, mount};
 use old_volume::VERSIONS;
 use std::alloc::Global;
 use store_api::Volume;
+use tree_paths::places::TREE_VERSION;
 use tree_volume::TreeVolume;
 
 /// What the header that counts and the counter say of a volume.
@@ -22,7 +23,7 @@ use tree_volume::TreeVolume;
 pub struct Facts {
     /// Of the header that was found.
     pub version: u32,
-    /// Of the volume as it was opened: one more than that of the header where a volume of version 1 was taken over.
+    /// Of the header that was found. A volume of version 1 has the next one, once it was taken over.
     pub sequence: u64,
     /// The counter as it was before the opening. It may be one behind the sequence.
     pub counter: u64,
@@ -42,6 +43,17 @@ pub fn slot_of(sequence: u64) -> u8
     (sequence % 2) as u8
 }
 
+/// The sequence of the header, of this version, by which a volume has this sequence.
+fn sequence_found(version: u32, sequence: u64) -> u64
+    ensures { result ≡ found_by version sequence }
+{
+    if version == TREE_VERSION {
+        sequence
+    } else {
+        sequence.saturating_sub(1)
+    }
+}
+
 /// Why there is no volume to look at.
 #[derive(Clone, Copy, Debug, PartialEq, Eq)]
 pub enum Unread {
@@ -55,7 +67,7 @@ fn open_at<B: Board + Drop>(alloc: Global, board: B, counter: u64) -> Result<Ope
     ensures unread { B.honest board → IfErr result (λ why. IsUnread (B.view board) why) }
     ensures counter { IfOk result (λ o. o.facts.counter ≡ counter) }
     ensures sequence { IfOk result (λ o.
-        o.facts.sequence ≡ (tree_keeper.held o.volume).sequence) }
+        o.facts.sequence ≡ found_by o.facts.version (tree_keeper.held o.volume).sequence) }
     ensures works { IfOk result (λ o. (tree_keeper.condition o.volume).lost ≡ false) }
     ensures sound { B.honest board → (n : ℕ) (h : Held) → Rests n (B.view board).state
         → TREE_BLOCKS ≤ (B.view board).size
@@ -72,7 +84,7 @@ fn open_at<B: Board + Drop>(alloc: Global, board: B, counter: u64) -> Result<Ope
         Ok(volume) => {
             let facts = Facts {
                 version: header.version,
-                sequence: volume.sequence(),
+                sequence: sequence_found(header.version, volume.sequence()),
                 counter,
             };
             Ok(Opened { facts, volume })
@@ -87,7 +99,7 @@ pub fn open_volume<B: Board + Drop>(alloc: Global, board: B) -> Result<Opened<B>
     ensures counter { B.honest board
         → IfOk result (λ o. IsCounter (B.view board).state o.facts.counter) }
     ensures sequence { IfOk result (λ o.
-        o.facts.sequence ≡ (tree_keeper.held o.volume).sequence) }
+        o.facts.sequence ≡ found_by o.facts.version (tree_keeper.held o.volume).sequence) }
     ensures works { IfOk result (λ o. (tree_keeper.condition o.volume).lost ≡ false) }
     // a board at rest with a sound image is opened to a volume of which no verification finds damage, unless it is blank, a call
     // failed or there was no memory
