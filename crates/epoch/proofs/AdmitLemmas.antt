@@ -25,9 +25,9 @@ module _ (f : Form) (old mid : View) (size : mid.size ≡ old.size) (key : mid.k
   pub refusal_so : (why : OpenAnswer) → IsRefusal f mid image counter why → IsRefusal f old base n why
   refusal_so why refusal =
       subst (λ (rule : Result (Option Found) OpenAnswer). RefusesBy rule why) (sym same_admission) refusal
-      where
-        same_admission : admission f old base n ≡ admission f mid image counter
-        same_admission = rw (sym size, sym key, sym reads, sym count) refl
+    where
+      same_admission : admission f old base n ≡ admission f mid image counter
+      same_admission = rw (sym size, sym key, sym reads, sym count) refl
 
 -- what the rule of the header refuses is refused, whatever the form refuses besides
 pub lifted : (f : Form) (key : List ℕ) (image : ℕ → List ℕ) (rule : Result (Option Found) OpenAnswer) (why : OpenAnswer) → RefusesBy rule why → RefusesBy (admitted_of f key image rule) why

@@ -44,7 +44,10 @@ pub enum OpenAnswer {
     /// No tag differs, and this region is the first that breaks a rule of the older version. The leaf is the least of it that
     /// does.
     #[error("region {region} of an older version breaks a rule at leaf {leaf}")]
-    OldGarbled { region: u8, leaf: u8 },
+    OldGarbled {
+        region: u8,
+        leaf: u8,
+    },
     /// A call of the board failed.
     #[error("the board failed")]
     Failed,

@@ -234,8 +234,12 @@ module _ {V A : Type 0} (K : VolumeKeeper V) (behaviour : Behaviour A) (app : �
   learned_origin v w began more =
       ap (λ (e : StorageEntry V). (let o : Origin V A = record { storage = storage; opened = e; machine = (origin_of storage w start).machine } in o))
       (first_prefix v.trail w.trail began more.trail)
-      ∙ ap (λ (ps : List StoragePart). (let o : Origin V A = record { storage = storage; opened = first_of v.trail; machine = over (part_at ps 0).store (part_at ps 0).in_doubt
-          (machine_of start) } in o))
+      ∙ ap (λ (ps : List StoragePart). (let o : Origin V A = record {
+        storage = storage;
+        opened = first_of v.trail;
+        machine = over (part_at ps 0).store (part_at ps 0).in_doubt
+            (machine_of start);
+      } in o))
       more.original
 
   -- an event that leaves the storage

@@ -266,8 +266,14 @@ module _ {V A : Type 0} (K : VolumeKeeper V) (behaviour : Behaviour A) (p : Pass
     of_then places of =
         let first : Some of.origin ≡ Some g.takes.is.origin = sym of.origin_is ∙ ap (λ (t : List (HostedEvent V A)). origin_in t) g.takes.is.trail in
         let same : now.origin ≡ of.origin = g.origin ∙ same_origin K behaviour p h g.takes ∙ sym (let e : of.origin ≡ g.takes.is.origin = cc (first) in e) in
-        record { cell = of.cell ∙ ap (λ (c : TableId). Some c) (sym same_cell); origin = now.origin; origin_is = origin_then; storage = ap (λ (o : Origin V A). o.storage) same ∙
-            of.storage; index = ap (λ (o : Origin V A). o.machine.index) same ∙ of.index }
+        record {
+          cell = of.cell ∙ ap (λ (c : TableId). Some c) (sym same_cell);
+          origin = now.origin;
+          origin_is = origin_then;
+          storage = ap (λ (o : Origin V A). o.storage) same ∙
+              of.storage;
+          index = ap (λ (o : Origin V A). o.machine.index) same ∙ of.index;
+        }
 
 -- ---- a call that is made, or refused
 

@@ -120,7 +120,7 @@ pub record PausedBack {V A : Type 0} (K : VolumeKeeper V) (behaviour : Behaviour
 module _ {V A C : Type 0} (K : VolumeKeeper V) (behaviour : Behaviour A) (id_of : C → TableId) (cells : List C) (cell : C) (storage : TableId) (places : Places) (p old : PassView V A)
     (view_is : p ≡ old)
     (is : IsPass K behaviour p) (of_old : IsPassOf places old) (places_are : (let s : Places = record { cells = map id_of cells; storage = storage } in s) ≡ places) (at : cell ≡ get_or
-        cells p.app cell)
+    cells p.app cell)
     (h : HostedView V A) (u : SeatView ClientPart (HostedEvent V A)) (taken : u ≡ with_turn (with_waits p.seat u.waiting_tries) u.turn 0)
     (found : segment p.seat.first (length p.seat.own) (parts_for h.log 0 h.misses) ≡ p.seat.own) (goes_on : IsPrefix p.seat.trail (trail_with h.origin h.log)) (keeps : KeepsHosted K behaviour h) where
   abbrev own : IsPassOf places p
@@ -134,8 +134,11 @@ module _ {V A C : Type 0} (K : VolumeKeeper V) (behaviour : Behaviour A) (id_of 
 
   -- the storage's cell is the one that the application's seat is of
   pub paused_storage : storage ≡ h.origin.storage
-  paused_storage = storage_of K behaviour p h (record { is = is; own = found; goes_on = goes_on; eight = keeps.eight }) (let s : Places = record { cells = map id_of cells; storage =
-      storage } in s) here
+  paused_storage = storage_of K behaviour p h (record { is = is; own = found; goes_on = goes_on; eight = keeps.eight }) (let s : Places = record {
+    cells = map id_of cells;
+    storage =
+        storage;
+  } in s) here
 
   pub gives_parts_back : (back : HostedView V A) → back ≡ h → taken_parts u.turn ≡ parts_for h.log 0 h.misses → ChangesOnlyWithin u.first (length u.own) (taken_parts u.turn) (parts_for
       back.log 0 back.misses)

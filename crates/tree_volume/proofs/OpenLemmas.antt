@@ -62,12 +62,12 @@ known_old v known other =
     (cases_lt 2 v))
     (cases_lt v 2))
     (cases_lt v 1)
-    where
-      or_flip : (a b : Bool) → (a || b) ≡ (b || a)
-      or_flip true true = refl
-      or_flip true false = refl
-      or_flip false true = refl
-      or_flip false false = refl
+  where
+    or_flip : (a b : Bool) → (a || b) ≡ (b || a)
+    or_flip true true = refl
+    or_flip true false = refl
+    or_flip false true = refl
+    or_flip false false = refl
 
 module _ (header : Header) (accepted : accepts VERSIONS header.version ≡ true) (other : (header.version == 2) ≡ false) where
   pub old_header : root_of header ≡ old_root header.root

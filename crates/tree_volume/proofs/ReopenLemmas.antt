@@ -89,10 +89,10 @@ alone_then v w n one two =
 -- a header that isn't rewritten is of the version that is written
 pub written_so : (v : ℕ) → not (v == 2) ≡ false → (v == 2) ≡ true
 written_so v kept = by_bool (v == 2) kept
-    where
-      by_bool : (b : Bool) → not b ≡ false → b ≡ true
-      by_bool true e = refl
-      by_bool false e = absurd (false≢true (sym e))
+  where
+    by_bool : (b : Bool) → not b ≡ false → b ≡ true
+    by_bool true e = refl
+    by_bool false e = absurd (false≢true (sym e))
 
 -- what is open on a board is open on the same board
 pub open_as : (w m : View) (r r' : TreeEntry) (s s' : ℕ) (h : Held) → m ≡ w → r' ≡ r → s' ≡ s → IsOpen w r s × (held_now w r s ≡ h) → IsOpen m r' s' × (held_now m r' s' ≡ h)

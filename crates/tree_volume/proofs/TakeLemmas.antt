@@ -150,12 +150,12 @@ module _ (v new : View) (size : new.size ≡ v.size) (key : new.key ≡ v.key) (
       let over : RefusesBy (admission volume_form v image header.sequence) why = refused_over volume_form v image image header.sequence (Some header) why at some in
       now_so why header.sequence (settled_counter header.sequence settled)
       (subst (λ (rule : Result (Option Found) OpenAnswer). RefusesBy rule why) (sym (same_admission image header.sequence reads)) over)
-      where
-        same_admission : (image : ℕ → List ℕ) (s : ℕ) → new.state.reads ≡ image → admission volume_form new new.state.reads s ≡ admission volume_form v image s
-        same_admission image s reads = rw (size, key, reads) refl
+    where
+      same_admission : (image : ℕ → List ℕ) (s : ℕ) → new.state.reads ≡ image → admission volume_form new new.state.reads s ≡ admission volume_form v image s
+      same_admission image s reads = rw (size, key, reads) refl
 
-        now_so : (why : OpenAnswer) (s : ℕ) → IsCounter new.state s → IsRefusal volume_form new new.state.reads s why → IsRefusedNow volume_form new why
-        now_so why s among refusal = now_refused volume_form new new refl refl refl s why (λ other. among) refusal
+      now_so : (why : OpenAnswer) (s : ℕ) → IsCounter new.state s → IsRefusal volume_form new new.state.reads s why → IsRefusedNow volume_form new why
+      now_so why s among refusal = now_refused volume_form new new refl refl refl s why (λ other. among) refusal
 
 -- ---- versions by their tests
 

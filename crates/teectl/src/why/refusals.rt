@@ -13,7 +13,8 @@ pub fn refusal_reason(why: &OpenAnswer) -> &'static str {
         OpenAnswer::UnknownVersion(_) => "the image is of a version that this program doesn't know",
         OpenAnswer::Rollback { .. } => "the image is older than its counter",
         OpenAnswer::Ahead { .. } => "the counter's file may be missing or old",
-        OpenAnswer::OldMismatch(_) => "the image is of version 1 and damaged, so it was left as it is",
+        OpenAnswer::OldMismatch(_) =>
+            "the image is of version 1 and damaged, so it was left as it is",
         OpenAnswer::OldGarbled { .. } => {
             "the image is of version 1 and one of its regions breaks a rule, so it was left as it is"
         }

@@ -53,10 +53,10 @@ returns-in-Err-clause-told g c tells =
     let told : OpenAnswer = open_answer c.in-Err.why in
     let is = refusal_old c.args.header c.requires.accepted (not_two c.args.header.version c.if-header-eq-TREE_VERSION.false) v.key v.state.reads in
     let refused : IsKeptFromOpening told ⊎ (refusal_of volume_form v.key v.state.reads (Some c.args.header) ≡ Some told) =
-        ⊎_elim
-        (λ (kept : IsKeptFromOpening told). inl kept)
-        (λ (some : old_refusal look c.args.header.root ≡ Some told). inr (is ∙ some))
-        (refused_told look c.args.header.root {A = TreeEntry} (Err c.in-Err.why) answer.walk answer.rules) in
+    ⊎_elim
+    (λ (kept : IsKeptFromOpening told). inl kept)
+    (λ (some : old_refusal look c.args.header.root ≡ Some told). inr (is ∙ some))
+    (refused_told look c.args.header.root {A = TreeEntry} (Err c.in-Err.why) answer.walk answer.rules) in
     record {
       refused = subst (λ (x : OpenAnswer). IsKeptFromOpening x ⊎ ((refusal_of volume_form v.key v.state.reads (Some c.args.header) ≡ Some x) × (n.state.reads ≡ v.state.reads)))
           (sym c.refusal_from.ensures)

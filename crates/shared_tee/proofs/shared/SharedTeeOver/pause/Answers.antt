@@ -85,7 +85,7 @@ give-requires-3-clause-parts g c =
     let v = known c.unseat-unseated.result.1 in
     let there : cell_id_of c.give-2.new.seat ≡ cell_id_of c.unseat-unseated.result.1 =
     c.give-2.ensures.own ∙ paused_storage g.V.Volume.keeper g.A.Application.behaviour (λ x. cell_id x) t.cells.items c.index-own.result.now (cell_id t.storage) c.args.self.now p
-        c.args.pass.now c.pass.view_is
+    c.args.pass.now c.pass.view_is
     c.pass.invariant c.requires.of c.self.view_is c.index-own.ensures h u took.others took.continues.0 took.continues.1 c.keeps.ensures ∙ sym x.cell in
     let same : c.seat.result ≡ h =
     c.seat.ensures v (subst (λ (i : TableId). FitsSeat g.V.Volume.keeper g.A.Application.behaviour apart i v) (sym there) x.fits)
@@ -108,7 +108,7 @@ give-requires-3-clause-trail g c =
     let v = known c.unseat-unseated.result.1 in
     let there : cell_id_of c.give-2.new.seat ≡ cell_id_of c.unseat-unseated.result.1 =
     c.give-2.ensures.own ∙ paused_storage g.V.Volume.keeper g.A.Application.behaviour (λ x. cell_id x) t.cells.items c.index-own.result.now (cell_id t.storage) c.args.self.now p
-        c.args.pass.now c.pass.view_is
+    c.args.pass.now c.pass.view_is
     c.pass.invariant c.requires.of c.self.view_is c.index-own.ensures h u took.others took.continues.0 took.continues.1 c.keeps.ensures ∙ sym x.cell in
     let same : c.seat.result ≡ h =
     c.seat.ensures v (subst (λ (i : TableId). FitsSeat g.V.Volume.keeper g.A.Application.behaviour apart i v) (sym there) x.fits)
@@ -131,7 +131,7 @@ invariant_of-pass-2 g c =
     let v = known c.unseat-unseated.result.1 in
     let there : cell_id_of c.give-2.new.seat ≡ cell_id_of c.unseat-unseated.result.1 =
     c.give-2.ensures.own ∙ paused_storage g.V.Volume.keeper g.A.Application.behaviour (λ x. cell_id x) t.cells.items c.index-own.result.now (cell_id t.storage) c.args.self.now p
-        c.args.pass.now c.pass.view_is
+    c.args.pass.now c.pass.view_is
     c.pass.invariant c.requires.of c.self.view_is c.index-own.ensures h u took.others took.continues.0 took.continues.1 c.keeps.ensures ∙ sym x.cell in
     let same : c.seat.result ≡ h =
     c.seat.ensures v (subst (λ (i : TableId). FitsSeat g.V.Volume.keeper g.A.Application.behaviour apart i v) (sym there) x.fits)
@@ -155,7 +155,7 @@ returns-clause-of g c =
     let v = known c.unseat-unseated.result.1 in
     let there : cell_id_of c.give-2.new.seat ≡ cell_id_of c.unseat-unseated.result.1 =
     c.give-2.ensures.own ∙ paused_storage g.V.Volume.keeper g.A.Application.behaviour (λ x. cell_id x) t.cells.items c.index-own.result.now (cell_id t.storage) c.args.self.now p
-        c.args.pass.now c.pass.view_is
+    c.args.pass.now c.pass.view_is
     c.pass.invariant c.requires.of c.self.view_is c.index-own.ensures h u took.others took.continues.0 took.continues.1 c.keeps.ensures ∙ sym x.cell in
     let same : c.seat.result ≡ h =
     c.seat.ensures v (subst (λ (i : TableId). FitsSeat g.V.Volume.keeper g.A.Application.behaviour apart i v) (sym there) x.fits)
@@ -179,7 +179,7 @@ returns-clause-goes g c =
     let v = known c.unseat-unseated.result.1 in
     let there : cell_id_of c.give-2.new.seat ≡ cell_id_of c.unseat-unseated.result.1 =
     c.give-2.ensures.own ∙ paused_storage g.V.Volume.keeper g.A.Application.behaviour (λ x. cell_id x) t.cells.items c.index-own.result.now (cell_id t.storage) c.args.self.now p
-        c.args.pass.now c.pass.view_is
+    c.args.pass.now c.pass.view_is
     c.pass.invariant c.requires.of c.self.view_is c.index-own.ensures h u took.others took.continues.0 took.continues.1 c.keeps.ensures ∙ sym x.cell in
     let same : c.seat.result ≡ h =
     c.seat.ensures v (subst (λ (i : TableId). FitsSeat g.V.Volume.keeper g.A.Application.behaviour apart i v) (sym there) x.fits)
@@ -203,7 +203,7 @@ returns-clause-same g c =
     let v = known c.unseat-unseated.result.1 in
     let there : cell_id_of c.give-2.new.seat ≡ cell_id_of c.unseat-unseated.result.1 =
     c.give-2.ensures.own ∙ paused_storage g.V.Volume.keeper g.A.Application.behaviour (λ x. cell_id x) t.cells.items c.index-own.result.now (cell_id t.storage) c.args.self.now p
-        c.args.pass.now c.pass.view_is
+    c.args.pass.now c.pass.view_is
     c.pass.invariant c.requires.of c.self.view_is c.index-own.ensures h u took.others took.continues.0 took.continues.1 c.keeps.ensures ∙ sym x.cell in
     let same : c.seat.result ≡ h =
     c.seat.ensures v (subst (λ (i : TableId). FitsSeat g.V.Volume.keeper g.A.Application.behaviour apart i v) (sym there) x.fits)

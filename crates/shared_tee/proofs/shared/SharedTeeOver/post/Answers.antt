@@ -119,7 +119,7 @@ returns-in-Ok-clause-ok g c =
     c.requires.of c.self.view_is c.index-cell.ensures h now _ gives id u w c.give.ensures.own c.in-Ok.ensures.others c.give.ensures.given in
     subst (λ (x : PassView g.row.V.Denot g.row.A.Denot). IfOk c.call-answer.result (λ posted. Posts g.V.Volume.keeper g.A.Application.behaviour c.args.call posted x new)) c.pass.view_is
     (posts g.V.Volume.keeper g.A.Application.behaviour p h now gives id back.same_cell u w u.turn c.in-Ok.ensures.others c.give.ensures.given c.call-answer.result c.args.call made.ok
-        made.room made.posted)
+    made.room made.posted)
 
 pub returns-in-Ok-clause-err : goal.returns-in-Ok-clause-err
 returns-in-Ok-clause-err g c =

@@ -118,7 +118,7 @@ returns-in-Ok-clause-ok g c =
     c.requires.of c.self.view_is c.index-cell.ensures h now _ gives id u w c.give.ensures.own c.in-Ok.ensures.others c.give.ensures.given in
     subst (λ (x : PassView g.row.V.Denot g.row.A.Denot). OnOk c.cancel-answer.result (Makes (Cancelled c.args.op) 0 x new)) c.pass.view_is
     (makes_ok g.V.Volume.keeper g.A.Application.behaviour p h now gives id back.same_cell u w u.turn c.in-Ok.ensures.others c.give.ensures.given c.cancel-answer.result (Cancelled
-        c.args.op) 0 made.ok made.room)
+    c.args.op) 0 made.ok made.room)
 
 pub returns-in-Ok-clause-err : goal.returns-in-Ok-clause-err
 returns-in-Ok-clause-err g c =
