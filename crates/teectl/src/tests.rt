@@ -11,6 +11,7 @@ use epoch::OpenAnswer;
 use sample_apps::{Sample, Store, sample_hosts};
 use std::alloc::Global;
 use std::process::Abort;
+use store_api::Mismatch;
 use tee_base::{Bytes, MemSink, MemSource, limits};
 use tee_top::{Status, run_tee, status_line};
 use uuid::Uuid;
@@ -318,7 +319,13 @@ fn a_long_script_is_refused(rt: HostRuntime) {
     assert!(rt; status == Status::TooLong);
 }
 
-const STATUSES: [(Status, u8, &'static str); 13] = [
+/// Two tags that differ.
+const TAGS: Mismatch = Mismatch {
+    found: [1; 32],
+    kept: [2; 32],
+};
+
+const STATUSES: [(Status, u8, &'static str); 15] = [
     (Status::Done, 0, ""),
     (
         Status::BadWords,
@@ -365,6 +372,19 @@ const STATUSES: [(Status, u8, &'static str); 13] = [
         }),
         67,
         "teectl: store refused: ahead 7 5\n",
+    ),
+    (
+        Status::StoreRefused(OpenAnswer::OldMismatch(TAGS)),
+        67,
+        "teectl: store refused: old volume mismatch\n",
+    ),
+    (
+        Status::StoreRefused(OpenAnswer::OldGarbled {
+            region: 15,
+            leaf: 255,
+        }),
+        67,
+        "teectl: store refused: old region 15 garbled at 255\n",
     ),
 ];
 
