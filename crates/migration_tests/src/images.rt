@@ -98,6 +98,8 @@ fn header_block<B: Board>(board: &mut B) -> Result<[u8; 1024], BoardFailed> {
 fn an_image_has_the_tag_of_another_program(rt: HostRuntime) -> Result<(), Fail> {
     let mut board = board_of(rt.alloc(), &one(rt.alloc())?, BLOCKS, SEQUENCE)?;
     let block = header_block(&mut board)?;
-    assert!(&rt; block[88..120] == HEADER_TAG);
+    let tag: &[u8] = &block[88..120];
+    let computed: &[u8] = &HEADER_TAG;
+    assert!(&rt; tag == computed);
     Ok(())
 }
