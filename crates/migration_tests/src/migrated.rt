@@ -65,14 +65,22 @@ fn is_taken_over(rt: &impl Abort, alloc: Global, mut volume: OnBoard, regions: u
     board
 }
 
+/// The bytes of a block.
+fn bytes_of<B: Board>(board: &mut B, block: u64) -> Result<[u8; 1024], BoardFailed> {
+    if board.blocks() <= block {
+        return Err(BoardFailed);
+    }
+    let mut bytes = [0; 1024];
+    board.read(block, &mut bytes)?;
+    Ok(bytes)
+}
+
 /// The blocks of the first version, one after another.
 fn old_blocks<B: Board>(alloc: Global, board: &mut B) -> Result<Vec<[u8; 1024]>, Fail> {
     let mut blocks = Vec::new(alloc);
     for block in 0..board.blocks() {
         if is_kept(block) {
-            let mut bytes = [0; 1024];
-            board.read(block, &mut bytes)?;
-            blocks.push(bytes)?;
+            blocks.push(bytes_of(board, block)?)?;
         }
     }
     Ok(blocks)
