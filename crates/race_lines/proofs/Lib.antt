@@ -1,0 +1,4 @@
+mod FollowLemmas
+mod GoLemmas
+mod LineLemmas
+mod WorkerLemmas
