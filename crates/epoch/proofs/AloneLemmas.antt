@@ -1,15 +1,13 @@
 -- Blocks that are left alone, by one call and by one run of calls after another.
-use Rattle.std.proofs.Common.{◌≡◌, ◌≢◌, ◌<◌, ◌+◌, ◌%◌, ◌*◌, ◌==◌, ◌∙◌, ℕ, Bool, not, true, false, List, Result, refl, sym, ap, subst, ⊎_elim, arith}
+use Rattle.std.proofs.Common.{◌≡◌, ◌≢◌, ◌<◌, ◌+◌, ◌%◌, ◌==◌, ◌∙◌, ℕ, Bool, not, true, false, List, refl, sym, ap, subst, ⊎_elim, arith}
 use Rattle.std.proofs.lemmas.Bool.{cases_eq}
-use Rattle.tee_base.specs.Crash.{LeavesOnly}
 use Rattle.tee_base.proofs.Crash.{joined, weaker}
-use Rattle.board.specs.declared.BoardFailed.{BoardFailed}
-use Rattle.board.specs.Moment.{IsConsistent, IsLeft, Moment, CrashImage, View, left_since, moment}
+use Rattle.board.specs.Moment.{IsConsistent, View, left_since, moment}
 use Rattle.board.specs.Runs.{LeavesBase, RunsOver}
-use Rattle.board.specs.Steps.{Advanced, Answered, SameBlocks, Synced, Wrote}
+use Rattle.board.specs.Steps.{Answered, SameBlocks, Synced, Wrote}
 use Rattle.board.proofs.Runs.{goes_on, run_starts, starts}
 use Rattle.epoch.specs.Alone.{LeavesAlone}
-use Rattle.epoch.specs.Gates.{gate_at, gate_open, header_at}
+use Rattle.epoch.specs.Gates.{gate_at, header_at}
 use Rattle.epoch.specs.Reading.{OnlyReads}
 use Rattle.epoch.proofs.CommitStages.{Carries, OpensGate, OpensHeader}
 

@@ -1,5 +1,5 @@
 -- What a crash leaves of a board that is at rest with a sound image, over the form of the leaves.
-use Rattle.std.proofs.Common.{◌≡◌, ◌≤◌, ◌+◌, ◌∙◌, ℕ, List, [], ◌∷◌, Option, Some, length, refl, sym, ap, inl, inr, ⊎_elim, arith}
+use Rattle.std.proofs.Common.{◌≡◌, ◌≤◌, ◌∙◌, ℕ, List, [], ◌∷◌, Option, Some, length, refl, sym, ap, inl, inr, ⊎_elim, arith}
 use Rattle.tee_base.specs.Crash.{read_as}
 use Rattle.store_api.specs.Volumes.{Held}
 use Rattle.board.specs.Moment.{IsConsistent, IsCounter, CrashImage, Moment, View, IsLeft, WasLeft, moment, left_since}

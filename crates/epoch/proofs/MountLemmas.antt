@@ -14,8 +14,8 @@ use Rattle.epoch.specs.Commits.{IsMounted, OpensTo}
 use Rattle.epoch.specs.Finding.{Finds, IsSettledAt, OpensBelow, sequence_of}
 use Rattle.epoch.specs.Formats.{IsFormatOf, accepts}
 use Rattle.epoch.specs.Forms.{Form, IsFramed, Root, blank_leaves, held_in, held_by, held_of, is_sealed, leaves_of, root_of}
-use Rattle.epoch.specs.Mounting.{AreSound, IsHolding, MightBe, Mounts, MountsAfterPower, MountsAgain, MountsTo, after_found, after_opening, after_version, opened_by}
-use Rattle.epoch.specs.Mounts.{IsLeftSound, IsOpenedTo, LeavesOpening, LeftByOpening, MakesBy, MakesOf}
+use Rattle.epoch.specs.Mounting.{AreSound, IsHolding, Mounts, MountsAfterPower, MountsAgain, MountsTo, after_found, after_opening, after_version, opened_by}
+use Rattle.epoch.specs.Mounts.{IsLeftSound, IsOpenedTo, LeavesOpening, LeftByOpening, MakesBy, MakesOf, MightBe}
 use Rattle.epoch.specs.Opening.{answer_at, header_answer, opening_by, opening_of, opens_as}
 use Rattle.epoch.specs.Past.{KeepsPast}
 use Rattle.epoch.specs.Slots.{slot_of}
@@ -211,9 +211,8 @@ module _ (f : Form) (h : Held) (old new : View) (holding : IsHolding f old.key h
   pub leaves_held : LeavesOnly moment left_since old new (λ c. held_of f old.key c ≡ Some h)
   leaves_held = leaves_by (opening_of f.known old.key old.state.reads old.state.counter) refl (opens_least f old.key h old.state holding fits)
 
--- and the board is mounted then
-module _ (f : Form) (framed : IsFramed f) (key : List ℕ) (h : Held) (old new : Moment) (as_read : (k : ℕ) → old.reads k ≡ old.durable k) (pending : (k : ℕ) → old.pending k ≡ false)
-    (blocks : SameBlocks old new) where
+-- a board of which nothing is pending, and the counter is settled, rests
+module _ (old new : Moment) (as_read : (k : ℕ) → old.reads k ≡ old.durable k) (pending : (k : ℕ) → old.pending k ≡ false) (blocks : SameBlocks old new) where
   rests_then : (n : ℕ) → IsSettledAt n new → Rests n new
   rests_then n settled = record {
     as_read = λ k. ap (λ (g : ℕ → List ℕ). g k) blocks.reads ∙ as_read k ∙ sym (ap (λ (g : ℕ → List ℕ). g k) blocks.durable);
@@ -222,6 +221,13 @@ module _ (f : Form) (framed : IsFramed f) (key : List ℕ) (h : Held) (old new :
     slack = settled.slack;
   }
 
+  pub rests_found : (result : Result (Option Header) OpenAnswer) → IfOk result (λ found. IsSettledAt (sequence_of found) new) → IfOk result (λ found. Rests (sequence_of found) new)
+  rests_found (Ok found) settled = rests_then (sequence_of found) settled
+  rests_found (Err why) settled = tt
+
+-- and it is mounted then
+module _ (f : Form) (framed : IsFramed f) (key : List ℕ) (h : Held) (old new : Moment) (as_read : (k : ℕ) → old.reads k ≡ old.durable k) (pending : (k : ℕ) → old.pending k ≡ false)
+    (blocks : SameBlocks old new) where
   opens_then : (n : ℕ) (o : Result (Option Found) OpenAnswer) → opening_of f.known key old.reads n ≡ o → opening_of f.known key new.reads n ≡ o
   opens_then n o e = ap (λ (image : ℕ → List ℕ). opening_of f.known key image n) blocks.reads ∙ e
 
@@ -236,7 +242,7 @@ module _ (f : Form) (framed : IsFramed f) (key : List ℕ) (h : Held) (old new :
       subst (MountsTo f key h new) (sym none) (
         is.1,
         λ root zeros. record {
-          rests = rests_then h.sequence settled';
+          rests = rests_then old new as_read pending blocks h.sequence settled';
           opens = subst (OpensTo f h.sequence root) (sym (at ∙ e)) (is.1, zeros);
           sealed = zero_sealed f framed key root new.reads zeros;
           leaves = is.0 ∙ sym (zero_leaves f framed key root new.reads zeros);
@@ -253,7 +259,7 @@ module _ (f : Form) (framed : IsFramed f) (key : List ℕ) (h : Held) (old new :
       subst (MountsTo f key h new) (sym some) (
         same,
         record {
-          rests = rests_then h.sequence settled';
+          rests = rests_then old new as_read pending blocks h.sequence settled';
           opens = subst (OpensTo f h.sequence (root_of w.header)) (sym at) (sym same, is.0 ∙ ap (λ (q : ℕ). q % 2) (sym same), refl);
           sealed = ap (λ (image : ℕ → List ℕ). is_sealed f key image (root_of w.header)) blocks.reads ∙ is.1;
           leaves = is.2 ∙ ap (λ (image : ℕ → List ℕ). leaves_of f key image (root_of w.header)) (sym blocks.reads);
@@ -261,6 +267,13 @@ module _ (f : Form) (framed : IsFramed f) (key : List ℕ) (h : Held) (old new :
         },
       )
   mounts_by n (Err answer) e is found answers settled = absurd is
+
+-- a board that rests at the sequence of what was found is mounted with what its image holds
+pub mounted_again : (f : Form) (framed : IsFramed f) (key : List ℕ) (h : Held) (m : Moment) (found : Option Header) (n : ℕ) → Rests (sequence_of found) m
+    → held_in f key m.reads n ≡ Some h → header_answer (opening_of f.known key m.reads n) ≡ Ok found → MountsTo f key h m found
+mounted_again f framed key h m found n rests holds answers =
+    mounts_by f framed key h m m rests.as_read rests.pending (record { reads = refl; durable = refl; pending = refl }) n (opening_of f.known key m.reads n) refl
+    (holds_as f key m.reads n h holds) found (sym answers) (record { counter = rests.counter; slack = rests.slack })
 
 -- an answer that isn't the rule's is a failure
 is_failure : (answer : OpenAnswer) → ((let none : Result (Option Header) OpenAnswer = Err answer in none ≢ Err Failed) → ⊥) → answer ≡ Failed
@@ -359,6 +372,81 @@ left_as_read v is n among = record {
   orders = refl;
 }
 
+-- a search over a board of which nothing is pending leaves nothing that might not have been left before
+module _ (f : Form) (old new : View) (is : IsConsistent old) (pending : (k : ℕ) → old.state.pending k ≡ false)
+    (goes : (open_at : ℕ → Bool) (base : ℕ → List ℕ) (low high : ℕ) (first : View) → OpensBelow f.known old.key old.state.reads low high
+    → RunsOver open_at base low high first old → RunsOver open_at base low high first new) where
+  abbrev top : ℕ
+  top = old.state.counter + old.state.slack
+
+  might_at : (c : CrashImage) (n : ℕ) → c.image ≡ old.state.reads → IsCounter old.state n → held_in f old.key old.state.reads c.counter ≡ held_in f old.key old.state.reads n
+      → MightBe f old.key old.state c
+  unfolding outcome_as_read
+  might_at c n image among same = (outcome_as_read old.state n, left_as_read old is n among, ap (λ (g : ℕ → List ℕ). held_in f old.key g c.counter) image ∙ same)
+
+  leaves_to : (high : ℕ) → top ≤ high → OpensBelow f.known old.key old.state.reads old.state.counter high
+      → ((n : ℕ) → top < n → n ≤ high → held_in f old.key old.state.reads n ≡ held_in f old.key old.state.reads top)
+      → LeavesOnly moment left_since old new (MightBe f old.key old.state)
+  leaves_to high room below above =
+      let run = goes (λ k. false) old.state.reads old.state.counter high old below
+      (run_starts (λ k. false) old.state.reads old.state.counter high old (record {
+        reads = λ k shut. refl;
+        durable = λ k shut. sym (is.as_read k (pending k));
+        pending = λ k shut. pending k;
+        least = omega arith;
+        greatest = room;
+      })) in
+      weaker moment left_since old new (λ c. LeavesBase (λ k. false) old.state.reads old.state.counter high c × (c.counter < 2 ^ 64)) (MightBe f old.key old.state)
+      (λ c both.
+      let same : c.image ≡ old.state.reads = λ i k. both.0.image k refl i in
+      let least = both.0.least in
+      let greatest = both.0.greatest in
+      let fits = both.1 in
+      ⊎_elim
+      (λ (over : top < c.counter). might_at c top same (record { least = omega arith; greatest = omega arith; fits = omega (arith, over, fits) }) (above c.counter over greatest))
+      (λ (under : c.counter ≤ top). might_at c c.counter same (record { least = least; greatest = under; fits = fits }) refl)
+      (cases_lt top c.counter))
+      (fitted old new (LeavesBase (λ k. false) old.state.reads old.state.counter high) run.leaves)
+
+  none_above : (n : ℕ) → top < n → n ≤ top → held_in f old.key old.state.reads n ≡ held_in f old.key old.state.reads top
+  none_above n over under = absurd (omega (arith, over, under))
+
+  -- no header above the greatest counter counts there, so none does at a lower one
+  leaves_low : ((found : Found) → opening_of f.known old.key old.state.reads top ≡ Ok (Some found) → found.header.sequence ≤ top)
+      → LeavesOnly moment left_since old new (MightBe f old.key old.state)
+  leaves_low low =
+      leaves_to top (omega arith)
+      (λ n found least up opens.
+      let two = opens_at_two f.known old.key old.state.reads n found opens in
+      ⊎_elim
+      (λ (less : n < top). omega (arith, less, two.1))
+      (λ (more : top ≤ n).
+      let same : n ≡ top = omega (arith, more, up) in
+      low found (ap (opening_of f.known old.key old.state.reads) (sym same) ∙ opens))
+      (cases_lt n top))
+      none_above
+
+  leaves_as : (o : Result (Option Found) OpenAnswer) → opening_of f.known old.key old.state.reads top ≡ o → LeavesOnly moment left_since old new (MightBe f old.key old.state)
+  leaves_as (Ok None) e = leaves_low (λ found opens. absurd (let both : (let none : Result (Option Found) OpenAnswer = Ok None in none ≡ Ok (Some found)) = sym e ∙ opens in cc))
+  leaves_as (Ok (Some w)) e =
+      let two = opens_at_two f.known old.key old.state.reads top w e in
+      ⊎_elim
+      (λ (over : top < w.header.sequence).
+      leaves_to w.header.sequence (omega (arith, over))
+      (λ n found least up opens.
+      let same : found.header.sequence ≡ w.header.sequence = ap (λ (x : Found). x.header.sequence) (same_found f.known old.key old.state.reads top n w found e opens) in
+      omega (arith, same))
+      (λ n above up. held_opening f old.key old.state.reads n top (two.2 n up (omega (arith, two.1, above)) ∙ sym e)))
+      (λ (under : w.header.sequence ≤ top).
+      leaves_low (λ found opens.
+      let same : found.header.sequence ≡ w.header.sequence = ap (λ (x : Found). x.header.sequence) (same_found f.known old.key old.state.reads top top w found e opens) in
+      omega (arith, same, under)))
+      (cases_lt top w.header.sequence)
+  leaves_as (Err why) e = leaves_low (λ found opens. absurd (let both : (let none : Result (Option Found) OpenAnswer = Err why in none ≡ Ok (Some found)) = sym e ∙ opens in cc))
+
+  pub search_leaves : LeavesOnly moment left_since old new (MightBe f old.key old.state)
+  search_leaves = leaves_as (opening_of f.known old.key old.state.reads top) refl
+
 -- what is sound holds something
 sound_now : (o : Option Held) → IsLeftSound o → (h : Held) × (o ≡ Some h)
 sound_now (Some h) sound = (h, refl)
@@ -398,9 +486,19 @@ module _ (f : Form) (old : View) (is : IsConsistent old) where
         refl,
       )
 
-  after_sync : (ok : Bool) (mid : View) → Answered old mid → Synced ok old.state mid.state → LeavesOnly moment left_since old mid (MightBe f old.key old.state)
+  pub after_sync : (ok : Bool) (mid : View) → Answered old mid → Synced ok old.state mid.state → LeavesOnly moment left_since old mid (MightBe f old.key old.state)
   after_sync ok mid answered synced =
       goes_on old old mid (MightBe f old.key old.state) (starts old (MightBe f old.key old.state) (λ c left. (c, left, refl))) answered.time (synced_left ok mid synced)
+
+  -- and what it leaves after a search behind the sync
+  pub leaves_again : (mid new : View) → mid.key ≡ old.key → Answered old mid → Synced true old.state mid.state
+      → LeavesOnly moment left_since mid new (MightBe f mid.key mid.state) → LeavesOnly moment left_since old new (MightBe f old.key old.state)
+  leaves_again mid new key answered synced run =
+      joined moment left_since old mid new (MightBe f old.key old.state) (after_sync true mid answered synced)
+      (weaker moment left_since mid new (MightBe f mid.key mid.state) (MightBe f old.key old.state)
+      (λ c might.
+      let before = synced_left true mid synced might.0 might.1 in
+      (before.0, before.1, ap (λ (k : List ℕ). held_of f k c) (sym key) ∙ might.2 ∙ ap (λ (k : List ℕ). held_of f k might.0) key ∙ before.2)) run)
 
   module _ (sound : AreSound f old) where
     -- what reads give now
@@ -433,13 +531,12 @@ module _ (f : Form) (old : View) (is : IsConsistent old) where
     among_now = (outcome_as_read old.state old.state.counter, left_as_read old is old.state.counter counter_now, now_held.1)
 
     -- a reopening whose sync failed
-    pub again_failed : (mid : View) → Answered old mid → Synced false old.state mid.state → (let failed : Result (Option Header) OpenAnswer = Err Failed in MountsAgain f failed old mid)
-    again_failed mid answered synced = record {
+    pub again_failed : (mid : View) → (let failed : Result (Option Header) OpenAnswer = Err Failed in MountsAgain f failed old mid)
+    again_failed mid = record {
       chosen = now_held.0;
       among = among_now;
       mounted = tt;
       failed = refl;
-      leaves = after_sync false mid answered synced;
     }
 
     mounted_under : (key : List ℕ) (m : Moment) (result : Result (Option Header) OpenAnswer) (E : Option Header → Type 0) → key ≡ old.key →
@@ -449,18 +546,15 @@ module _ (f : Form) (old : View) (is : IsConsistent old) where
     mounted_under key m (Err answer) E same mounted = tt
 
     -- one whose search came to its end
-    pub again_found : (mid new : View) (result : Result (Option Header) OpenAnswer) → mid.key ≡ old.key → Answered old mid → Synced true old.state mid.state
+    pub again_found : (mid new : View) (result : Result (Option Header) OpenAnswer) → mid.key ≡ old.key → Synced true old.state mid.state
         → ((h : Held) → IsHolding f mid.key h mid.state → Mounts f h result mid new) → MountsAgain f result old new
-    again_found mid new result key answered synced search =
+    again_found mid new result key synced search =
         let found = search now_held.0 (synced_holds mid key synced) in
         record {
           chosen = now_held.0;
           among = among_now;
           mounted = mounted_under mid.key new.state result (λ header. after_found f header now_held.0 ≡ after_opening f mid now_held.0) key found.mounted;
           failed = found.failed;
-          leaves = joined moment left_since old mid new (MightBe f old.key old.state) (after_sync true mid answered synced)
-              (weaker moment left_since mid new (λ c. held_of f mid.key c ≡ Some now_held.0) (MightBe f old.key old.state)
-              (λ c e. (among_now.0, among_now.1, ap (λ (k : List ℕ). held_of f k c) (sym key) ∙ e ∙ sym among_now.2)) found.leaves);
         }
 
 -- two lists of orders that are equal have the same last order
@@ -485,10 +579,17 @@ module _ (f : Form) (old mid : View) (key : mid.key ≡ old.key) (time : Passes 
   mounted_back h m (Ok found) mounted = subst (λ (k : List ℕ). MountsTo f k h m found) key mounted
   mounted_back h m (Err answer) mounted = tt
 
+  pub leaves_powered : (new : View) → LeavesOnly moment left_since mid new (MightBe f mid.key mid.state) → LeavesOnly moment left_since old new (MightBe f old.key old.state)
+  leaves_powered new run =
+      joined moment left_since old mid new (MightBe f old.key old.state)
+      (goes_on old old mid (MightBe f old.key old.state) (starts old (MightBe f old.key old.state) (λ c left. (c, left, refl))) time
+      (λ c left. (powered.left, powered.may, ap (λ (k : List ℕ). held_of f k c) (sym key) ∙ power_left c left)))
+      (weaker moment left_since mid new (MightBe f mid.key mid.state) (MightBe f old.key old.state) might_be run)
+
   pub after_power : (pick : ℕ) (new : View) (result : Result (Option Header) OpenAnswer)
       → new.ordered ≡ record { number = pick; before = old.state; after = mid.state } ∷ old.ordered → MountsAgain f result mid new
-      → MountsAfterPower f result old new
-  after_power pick new result ordered again =
+      → LeavesOnly moment left_since mid new (MightBe f mid.key mid.state) → MountsAfterPower f result old new
+  after_power pick new result ordered again run =
       let chosen : held_of f old.key powered.left ≡ Some again.chosen = sym (power_left again.among.0 again.among.1) ∙ again.among.2 in
       record {
         again = record {
@@ -496,16 +597,12 @@ module _ (f : Form) (old mid : View) (key : mid.key ≡ old.key) (time : Passes 
           among = (powered.left, powered.may, chosen);
           mounted = mounted_back again.chosen new.state result again.mounted;
           failed = again.failed;
-          leaves = joined moment left_since old mid new (MightBe f old.key old.state)
-              (goes_on old old mid (MightBe f old.key old.state) (starts old (MightBe f old.key old.state) (λ c left. (c, left, refl))) time
-              (λ c left. (powered.left, powered.may, ap (λ (k : List ℕ). held_of f k c) (sym key) ∙ power_left c left)))
-              (weaker moment left_since mid new (MightBe f mid.key mid.state) (MightBe f old.key old.state) might_be again.leaves);
         };
         ordered = λ order last c left.
             let same : order.after ≡ mid.state = ap (λ (o : Order). o.after) (last_order (sym last ∙ ordered)) in
             ap (λ (k : List ℕ). held_of f k c) (sym key) ∙ power_left c (subst (λ (m : Moment). IsLeft m c) same left) ∙ chosen;
         rests = λ c left.
-            let might = again.leaves.each c (inl left) in
+            let might = run.each c (inl left) in
             ap (λ (k : List ℕ). held_of f k c) (sym key) ∙ might.2 ∙ power_left might.0 might.1 ∙ chosen;
       }
 

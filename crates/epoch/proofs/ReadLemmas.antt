@@ -1,5 +1,5 @@
 -- Calls that only read, and the first damage on a way.
-use Rattle.std.proofs.Common.{◌≡◌, ◌∙◌, Option, None, Some, Result, Ok, Err, refl, ap}
+use Rattle.std.proofs.Common.{◌∙◌, Option, Err, refl, ap}
 use Rattle.store_api.specs.declared.answer.Mismatch.{Mismatch}
 use Rattle.store_api.specs.declared.leaves.LeafAnswer.{LeafAnswer}
 use Rattle.store_api.specs.declared.leaves.LeafAnswer.TheVariants as answers

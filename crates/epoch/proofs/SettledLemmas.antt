@@ -1,8 +1,8 @@
 -- What calls that write no block leave of what no crash could change, and what that makes of the leaves of a root.
-use Rattle.std.proofs.Common.{◌≡◌, ◌≢◌, ◌≤◌, ◌<◌, ◌+◌, ◌-◌, ◌∙◌, ℕ, Bool, true, false, List, refl, sym, ap, arith}
+use Rattle.std.proofs.Common.{◌≡◌, ◌≢◌, ◌+◌, ◌∙◌, ℕ, Bool, true, false, List, refl, sym, ap, arith}
 use Rattle.board.specs.Moment.{IsConsistent, Moment, View}
 use Rattle.board.specs.Steps.{Powered, SameBlocks, Synced, Unchanged, Wrote}
-use Rattle.board.specs.Runs.{IsBase, RunsOver}
+use Rattle.board.specs.Runs.{RunsOver}
 use Rattle.board.proofs.Runs.{run_starts}
 use Rattle.epoch.specs.Commits.{IsSteady, StaysSettled}
 use Rattle.epoch.specs.Finding.{IsSettledAt}

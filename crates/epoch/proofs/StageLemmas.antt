@@ -1,5 +1,5 @@
 -- What the images that a crash leaves within a step open to.
-use Rattle.std.proofs.Common.{◌≡◌, ◌≢◌, ◌≤◌, ◌<◌, ◌+◌, ◌⊎◌, ◌==◌, ◌∙◌, if◌then◌else◌, ℕ, Bool, true, false, not, List, Option, Some}
+use Rattle.std.proofs.Common.{◌≡◌, ◌≢◌, ◌≤◌, ◌<◌, ◌+◌, ◌⊎◌, ◌∙◌, if◌then◌else◌, ℕ, Bool, true, false, not, List, Option, Some}
 use Rattle.std.proofs.Common.{None, Result, Ok, Err, refl, sym, ap, subst, inl, inr, ⊎_elim, nat_lt, arith}
 use Rattle.std.proofs.lemmas.Bool.{cases_lt, false≢true}
 use Rattle.board.specs.Moment.{CrashImage, Moment}

@@ -1,5 +1,5 @@
 -- What a search for the header that counts finds on an honest board, and what it leaves.
-use Rattle.std.specs.Prelude.{◌≡◌, ◌≢◌, ◌≤◌, ◌<◌, ℕ, Bool, List, Option, Some, None, Result, Ok, Err, OnErr}
+use Rattle.std.specs.Prelude.{◌≡◌, ◌≢◌, ◌≤◌, ◌<◌, ℕ, Bool, Option, Some, None, Result, Ok, Err, OnErr}
 use Rattle.board.specs.Moment.{Moment, IsCounter}
 use Rattle.epoch.specs.Opening.{IsRuled, opening_of, opens_as}
 use Rattle.epoch.specs.declared.answer.OpenAnswer.{OpenAnswer}

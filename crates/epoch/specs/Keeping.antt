@@ -1,5 +1,5 @@
 -- What a volume that is open holds, over the form of its leaves, and what a commit at the last sequence leaves.
-use Rattle.std.specs.Prelude.{◌≡◌, ℕ, ◌-◌, ◌^◌, Some}
+use Rattle.std.specs.Prelude.{◌≡◌, ◌-◌, ◌^◌, Some}
 use Rattle.tee_base.specs.Crash.{LeavesOnly}
 use Rattle.store_api.specs.declared.leaves.LeafAnswer.{LeafAnswer}
 use Rattle.store_api.specs.declared.leaves.LeafAnswer.TheVariants as answers

@@ -1,5 +1,5 @@
 -- Laws of the rule by which a board is opened.
-use Rattle.std.specs.Prelude.{◌≡◌, ◌<◌, ◌≤◌, ℕ, ◌+◌, Bool, List, Some, Ok, Err}
+use Rattle.std.specs.Prelude.{◌≡◌, ◌<◌, ◌≤◌, ℕ, ◌+◌, Bool, Some, Ok, Err}
 use Rattle.store_api.specs.Volumes.{Held}
 use Rattle.board.specs.Moment.{View}
 use Rattle.epoch.specs.Forms.{Form}

@@ -1,17 +1,18 @@
 -- What is found by a search for the header that counts, over the form of the leaves: on a board that holds this, after a
 -- sync, and after a loss of power.
-use Rattle.std.specs.Prelude.{◌≡◌, ◌≢◌, ◌==◌, ℕ, Bool, true, false, List, Option, Some, None, Result, Ok, Err, IfErr, IfOk}
+use Rattle.std.specs.Prelude.{◌≡◌, ◌≢◌, ◌==◌, ℕ, Bool, true, false, Option, Some, None, Result, Ok, Err, IfErr, IfOk}
 use Rattle.tee_base.specs.Crash.{LeavesOnly}
 use Rattle.tee_base.specs.Faults.{Rose}
 use Rattle.store_api.specs.Volumes.{Held}
 use Rattle.board.specs.Moment.{IsCounter, IsLeft, Moment, CrashImage, View, left_since, moment}
+use Rattle.board.specs.Runs.{Rests}
 use Rattle.board.specs.Steps.{CallRun, SameBlocks}
 use Rattle.epoch.specs.Alone.{LeavesAlone}
 use Rattle.epoch.specs.Commits.{IsMounted, next_held}
 use Rattle.epoch.specs.Finding.{IsSettledAt, sequence_of}
-use Rattle.epoch.specs.Formats.{IsAccepted}
+use Rattle.epoch.specs.Formats.{IsAccepted, IsFormatOf}
 use Rattle.epoch.specs.Forms.{Form, IsBlankRoot, Root, held_in, held_of, root_of}
-use Rattle.epoch.specs.Mounts.{IsLeftSound, LeftByOrder}
+use Rattle.epoch.specs.Mounts.{IsLeftSound, IsRuledBy, LeftByOrder, MightBe, PowerFirst}
 use Rattle.epoch.specs.Opening.{found_header, no_failure, opening_of}
 use Rattle.epoch.specs.Past.{KeepsPast}
 use Rattle.epoch.specs.declared.format.Format.{Format}
@@ -37,6 +38,11 @@ after_version f false h = next_held f h.leaves h.sequence
 abbrev pub after_found : Form → Option Header → Held → Held
 after_found f None h = next_held f h.leaves h.sequence
 after_found f (Some header) h = after_version f (header.version == f.version) h
+
+-- the same at a reopening, which formats nothing
+abbrev pub after_again : Form → Option Header → Held → Held
+after_again f None h = h
+after_again f (Some header) h = after_version f (header.version == f.version) h
 
 -- what an opening makes of what is held, by how the board opens
 abbrev pub opened_by : Form → Result (Option Found) OpenAnswer → Held → Held
@@ -67,10 +73,6 @@ pub record Mounts (f : Form) (h : Held) (result : Result (Option Header) OpenAns
 abbrev pub AreSound : Form → View → Type 0
 AreSound f view = (c : CrashImage) → IsLeft view.state c → IsLeftSound (held_of f view.key c)
 
--- a crash left what holds the same as something that it might have left then
-abbrev pub MightBe : Form → Key → Moment → CrashImage → Type 0
-MightBe f key m c = (d : CrashImage) × IsLeft m d × (held_of f key c ≡ held_of f key d)
-
 -- a board was opened again: it is mounted with what a crash might have left, or a call failed
 pub record MountsAgain (f : Form) (result : Result (Option Header) OpenAnswer)
     (old new : View) : Type 0 where
@@ -78,7 +80,6 @@ pub record MountsAgain (f : Form) (result : Result (Option Header) OpenAnswer)
   pub among : (c : CrashImage) × IsLeft old.state c × (held_of f old.key c ≡ Some chosen)
   pub mounted : IfOk result (λ found. MountsTo f old.key chosen new.state found)
   pub failed : IfErr result (λ why. why ≡ answers.Failed)
-  pub leaves : LeavesOnly moment left_since old new (MightBe f old.key old.state)
 
 -- the same after a loss of power: right behind the order a crash leaves what was chosen alone, and so it does now
 pub record MountsAfterPower (f : Form) (result : Result (Option Header) OpenAnswer)
@@ -104,3 +105,15 @@ pub record SearchesHonestly (result : Result (Option Header) OpenAnswer) (old ne
   pub blocks : SameBlocks old.state new.state
   pub alone : LeavesAlone (λ k. Unit {0}) old new
   pub counter : IfOk result (λ header. IsSettledAt (sequence_of header) new.state)
+
+-- a search behind a loss of power, of an honest board: the power goes before any other call, and nothing of the past is forgotten; the
+-- answer is the rule's over what the power left, which reads give still; at Ok the board rests at the sequence that was found; a crash
+-- leaves nothing that it might not have left before
+pub record SearchesPowered (format : Format) (pick : ℕ) (result : Result (Option Header) OpenAnswer) (old new : View) : Type 0 where
+  pub begins : PowerFirst pick true (λ k. Unit {0}) old new
+  pub past : KeepsPast old new
+  pub reads : new.state.reads ≡ begins.powered.left.image
+  pub ruled : (f : Form) → IsFormatOf f format
+      → IsRuledBy f old begins.powered.left.image begins.powered.left.counter result
+  pub rests : IfOk result (λ header. Rests (sequence_of header) new.state)
+  pub leaves : (f : Form) → IsFormatOf f format → LeavesOnly moment left_since old new (MightBe f old.key old.state)

@@ -1,6 +1,6 @@
 -- What the opening of a volume on a board promises, and its reopening, a loss of power and a fuse, over the form of the
 -- leaves.
-use Rattle.std.specs.Prelude.{◌≡◌, ◌≢◌, ◌≤◌, ◌<◌, ◌⊎◌, ◌+◌, ◌%◌, ◌^◌, ◌==◌, ℕ, Bool, List, ◌∷◌, false, true, Option, Some, None, Result, Ok, Err, IfErr, IfOk, OnErr}
+use Rattle.std.specs.Prelude.{◌≡◌, ◌≢◌, ◌≤◌, ◌<◌, ◌⊎◌, ◌+◌, ◌%◌, ◌^◌, ◌==◌, ℕ, Bool, ◌∷◌, false, true, Option, Some, None, Result, Ok, Err, IfErr, IfOk, OnErr}
 use Rattle.tee_base.specs.Crash.{LeavesOnly, read_as}
 use Rattle.tee_base.specs.declared.limits.TheConstants.{MAX_HOSTS}
 use Rattle.store_api.specs.Volumes.{Held, RestsAt, VolumeKeeper}
@@ -9,7 +9,7 @@ use Rattle.board.specs.Steps.{CallRun, Passes, Powered, SameBlocks}
 use Rattle.tee_base.specs.Faults.{Rose}
 use Rattle.board.specs.declared.fuse.Fuse.TheVariants.{Unset}
 use Rattle.epoch.specs.Finding.{IsSettledAt}
-use Rattle.epoch.specs.Forms.{Form, Root, held_of, root_of}
+use Rattle.epoch.specs.Forms.{Form, Root, held_in, held_of, root_of}
 use Rattle.epoch.specs.Alone.{LeavesAlone}
 use Rattle.epoch.specs.Opening.{found_header, header_answer, is_no_failure, opening_of, opens_as}
 use Rattle.epoch.specs.Past.{KeepsPast}
@@ -45,6 +45,22 @@ MakesOf f (Err answer) before after = after ≡ before
 abbrev pub IsOpenedTo : Form → View → Held → Held → Type 0
 IsOpenedTo f view before after =
     MakesOf f (opening_of f.known view.key view.state.reads view.state.counter) before after
+
+-- what a reopening makes of what is held by a board that opens so: it formats nothing
+abbrev pub RemakesOf : Form → Result (Option Found) OpenAnswer → Held → Held → Type 0
+RemakesOf f (Ok None) before after = after ≡ before
+RemakesOf f (Ok (Some found)) before after =
+    MakesBy f (found.header.version == f.version) before after
+RemakesOf f (Err answer) before after = after ≡ before
+
+-- the same of what an image holds beside a counter
+abbrev pub IsReopenedTo : Form → Key → Image → Counter → Held → Held → Type 0
+IsReopenedTo f key image counter before after =
+    RemakesOf f (opening_of f.known key image counter) before after
+
+-- a crash left what holds the same as something that it might have left then
+abbrev pub MightBe : Form → Key → Moment → CrashImage → Type 0
+MightBe f key m c = (d : CrashImage) × IsLeft m d × (held_of f key c ≡ held_of f key d)
 
 -- a crash left a sound volume
 abbrev pub IsLeftSound : Option Held → Type 0
@@ -179,15 +195,32 @@ pub record LosesPower (pick : ℕ) (ok : Bool) (old new : View) : Type 0 where
   pub steady : ok ≡ true → new.state.faults ≡ old.state.faults
   pub fuse : new.fuse ≡ Unset
 
--- the same of an honest board: nothing of the past is forgotten; by the rule over what a crash might have left it was opened, and what
--- is told takes up what counts there so, or refused; the counter is then the sequence, and a refusal is of the board as it is now
+-- within a reopening that found an image and a counter which held this, a crash leaves what it might have left before, or what is made
+-- of this
+abbrev pub LeftByReopening : Form → View → Image → Counter → Held → CrashImage → Type 0
+LeftByReopening f old image counter held c = MightBe f old.key old.state c
+    ⊎ ((after : Held) × (held_of f old.key c ≡ Some after) × IsReopenedTo f old.key image counter held after)
+
+-- an image and a counter that were found held this: at Ok the volume now holds what a reopening makes of it, and a crash leaves
+-- nothing else; at every moment of the call a crash leaves what it might have left before, or that
+pub record KeepsFound {A : Type 0} (f : Form) (image : Image) (counter : Counter) (result : Result A OpenAnswer) (now : Held) (old new : View)
+    (held : Held) : Type 0 where
+  pub made : IfOk result (λ x. IsReopenedTo f old.key image counter held now)
+  pub rests : IfOk result (λ x. (c : CrashImage) → IsLeft new.state c → held_of f old.key c ≡ Some now)
+  pub leaves : LeavesOnly moment left_since old new (LeftByReopening f old image counter held)
+
+-- the same of an honest board: nothing of the past is forgotten; by the rule over what the loss left it was opened, and what is told
+-- takes up what counts there so, or refused; whatever sound volume is held there is kept, in the version that is written; the counter is
+-- then the sequence of what the volume now holds, and a refusal is of the board as it is now
 pub record LosesPowerByRule {A : Type 0} (f : Form) (Stays : ℕ → Type 0) (pick : ℕ) (kept : Bool) (result : Result A OpenAnswer)
-    (Takes : A → Option Header → Type 0) (sequence : A → Sequence) (old new : View) : Type 0 where
+    (Takes : A → Option Header → Type 0) (now : Held) (old new : View) : Type 0 where
   pub begins : PowerFirst pick kept Stays old new
   pub past : KeepsPast old new
-  pub exact : (c : CrashImage) × IsLeft old.state c × IfErr result (λ why. IsRefusal f old c.image c.counter why)
-      × IfOk result (λ x. IsAdmittedTo f old c.image c.counter (Takes x))
-  pub counter : IfOk result (λ x. IsSettledAt (sequence x) new.state)
+  pub exact : let left = begins.powered.left in IfErr result (λ why. IsRefusal f old left.image left.counter why)
+      × IfOk result (λ x. IsAdmittedTo f old left.image left.counter (Takes x))
+  pub holds : let left = begins.powered.left in (held : Held) → held_of f old.key left ≡ Some held
+      → KeepsFound f left.image left.counter result now old new held
+  pub counter : IfOk result (λ x. IsSettledAt now.sequence new.state)
   pub refusal : IfErr result (λ why. IsRefusedNow f new why)
 
 -- right behind the last order that was made to the board a crash leaves this, and nothing else
@@ -219,14 +252,21 @@ pub record OpensHonestly (Stays : ℕ → Type 0) (sequence : Sequence) (old new
 
 -- an honest board that was opened again: it reads as before where the answer shows that nothing was taken over, of these blocks none
 -- changes at any moment, and nothing of the past is forgotten; by the rule over what it read as, at a counter that it may have told, it
--- was opened or refused; the counter is then the sequence, and a refusal is of the board as it is now
-pub record ReopensByRule (f : Form) (Stays : ℕ → Type 0) (result : Result Reopened OpenAnswer) (root : Root) (old new : View) : Type 0 where
+-- was opened or refused; whatever sound volume is held there is kept, in the version that is written; the counter is then the sequence
+-- of what the volume now holds, and a refusal is of the board as it is now
+pub record ReopensByRule (f : Form) (Stays : ℕ → Type 0) (result : Result Reopened OpenAnswer) (root : Root) (now : Held) (old new : View)
+    : Type 0 where
   pub reads : shows_kept result ≡ true → new.state.reads ≡ old.state.reads
   pub past : KeepsPast old new
   pub alone : LeavesAlone Stays old new
-  pub exact : (counter : Counter) × IsCounter old.state counter × IfErr result (λ why. IsRefusal f old old.state.reads counter why)
-      × IfOk result (λ told. IsAdmittedTo f old old.state.reads counter (IsReopened f told root))
-  pub counter : IfOk result (λ told. IsSettledAt (sequence_after told) new.state)
+  -- the counter that was told
+  pub found : Counter
+  pub among : IsCounter old.state found
+  pub exact : IfErr result (λ why. IsRefusal f old old.state.reads found why)
+      × IfOk result (λ told. IsAdmittedTo f old old.state.reads found (IsReopened f told root))
+  pub holds : (held : Held) → held_in f old.key old.state.reads found ≡ Some held
+      → KeepsFound f old.state.reads found result now old new held
+  pub counter : IfOk result (λ told. IsSettledAt now.sequence new.state)
   pub refusal : IfErr result (λ why. IsRefusedNow f new why)
 
 -- within an opening a crash leaves what the board held, or what the opening makes of that

@@ -1,6 +1,6 @@
 -- The rule by which a board is opened, over an image and a counter. Which versions are accepted, and the number of blocks
 -- that a volume has, are parameters.
-use Rattle.std.specs.Prelude.{◌≡◌, ◌≢◌, ℕ, ◌+◌, ◌==◌, not, nat_lt, if◌then◌else◌, Bool, true, false, List, Option, Some, None, Result, Ok, Err}
+use Rattle.std.specs.Prelude.{◌≡◌, ◌≢◌, ℕ, ◌+◌, ◌==◌, not, nat_lt, if◌then◌else◌, Bool, true, false, Option, Some, None, Result, Ok, Err}
 use Rattle.store_api.specs.declared.answer.Mismatch.{Mismatch}
 use Rattle.epoch.specs.Slots.{slot_of}
 use Rattle.epoch.specs.declared.answer.OpenAnswer.{OpenAnswer}

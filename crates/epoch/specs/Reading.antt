@@ -1,5 +1,5 @@
 -- What calls that read leaves keep of a board, and whether one answers that a call of the board failed.
-use Rattle.std.specs.Prelude.{ℕ, not, Bool, true, false, List, Result, Ok, Err}
+use Rattle.std.specs.Prelude.{ℕ, not, Bool, true, false, Result, Ok, Err}
 use Rattle.store_api.specs.declared.leaves.LeafAnswer.{LeafAnswer}
 use Rattle.store_api.specs.declared.leaves.LeafAnswer.TheVariants as answers
 use Rattle.board.specs.Moment.{View}

@@ -1,5 +1,5 @@
 -- What the three steps of a commit do to a board, and what a crash within them leaves.
-use Rattle.std.specs.Prelude.{◌≡◌, ◌≢◌, ◌<◌, ◌⊎◌, ℕ, ◌+◌, ◌-◌, ◌==◌, ◌&&◌, Bool, true, false, List, Option, Some, None, Result, Ok, Err}
+use Rattle.std.specs.Prelude.{◌≡◌, ◌≢◌, ◌<◌, ◌⊎◌, ℕ, ◌+◌, ◌-◌, ◌==◌, ◌&&◌, Bool, true, false, Option, Some, None, Result, Ok, Err}
 use Rattle.board.specs.Moment.{CrashImage, Moment, IsCounter}
 use Rattle.board.specs.Runs.{Rests}
 use Rattle.epoch.specs.Gates.{gate_at, header_at, gate_open}

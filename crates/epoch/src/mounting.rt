@@ -1,14 +1,16 @@
 //! What a board holds that is opened, over the form of the leaves: found at first, after a sync, after a loss of power.
-ghost use Rattle.std.specs.Prelude.{◌≡◌, ◌≢◌, ◌≤◌, ℕ, true, Err, IfErr, IfOk, IsTrue, OnOk};
+ghost use Rattle.std.specs.Prelude.{◌≡◌, ◌≢◌, ◌≤◌, ℕ, false, true, Err, IfErr, IfOk, IsTrue, OnOk};
 ghost use Rattle.store_api.specs.Volumes.{Held};
-ghost use Rattle.board.specs.Moment.{IsCounter, IsLeft, CrashImage};
+ghost use Rattle.tee_base.specs.Crash.{LeavesOnly};
+ghost use Rattle.board.specs.Moment.{IsCounter, left_since, moment};
+ghost use Rattle.board.specs.Runs.{Rests};
 ghost use Rattle.epoch.specs.Alone.{LeavesAlone};
 ghost use Rattle.epoch.specs.Commits.{StaysSettled};
-ghost use Rattle.epoch.specs.Finding.{IsSettledAt, sequence_of};
+ghost use Rattle.epoch.specs.Finding.{sequence_of};
 ghost use Rattle.epoch.specs.Formats.{IsAccepted, IsFormatOf};
 ghost use Rattle.epoch.specs.Forms.{Form, IsFramed};
-ghost use Rattle.epoch.specs.Mounting.{AreSound, IsHolding, Mounts, MountsAfterPower, MountsAgain, Searches, SearchesHonestly};
-ghost use Rattle.epoch.specs.Mounts.{IsRefusedNow, IsRuledBy, LosesPower, PowerFirst};
+ghost use Rattle.epoch.specs.Mounting.{AreSound, IsHolding, Mounts, MountsAfterPower, MountsAgain, Searches, SearchesHonestly, SearchesPowered};
+ghost use Rattle.epoch.specs.Mounts.{IsRefusedNow, IsRuledBy, LosesPower, MightBe};
 ghost use Rattle.epoch.specs.Opening.{no_failure};
 ghost use Rattle.epoch.specs.Past.{KeepsPast};
 ghost use Rattle.epoch.specs.declared.answer.OpenAnswer.TheVariants as answers;
@@ -41,6 +43,11 @@ pub fn mount<B: Board>(board: &mut B, format: Format) -> Result<Option<Header>, 
     // a refusal is the rule's over what the board then holds
     ensures refusal { B.honest board.old → IfErr result (λ why. (f : Form) → IsFormatOf f format
         → IsRefusedNow f (B.view board.new) why) }
+    // where nothing is pending, a crash leaves nothing that it might not have left before
+    ensures leaves { B.honest board.old
+        → ((k : ℕ) → (B.view board.old).state.pending k ≡ false) → (f : Form) → IsFormatOf f format
+        → LeavesOnly moment left_since (B.view board.old) (B.view board.new)
+        (MightBe f (B.view board.old).key (B.view board.old).state) }
     ensures holds { B.honest board.old → (f : Form) (h : Held) → IsFramed f
         → IsFormatOf f format → f.blocks ≤ (B.view board.old).size
         → IsHolding f (B.view board.old).key h (B.view board.old).state
@@ -62,11 +69,15 @@ pub fn mount_again<B: Board>(board: &mut B, format: Format) -> Result<Option<Hea
     // no block changes, at any moment
     ensures alone { B.honest board.old
         → LeavesAlone (λ k. Unit {0}) (B.view board.old) (B.view board.new) }
-    // at Ok the counter is the sequence, and no other is left open
-    ensures counter { B.honest board.old
-        → IfOk result (λ header. IsSettledAt (sequence_of header) (B.view board.new).state) }
+    // at Ok the board rests, and the counter is the sequence
+    ensures rests { B.honest board.old
+        → IfOk result (λ header. Rests (sequence_of header) (B.view board.new).state) }
     ensures honest { B.honest board.old → B.honest board.new }
     ensures past { B.honest board.old → KeepsPast (B.view board.old) (B.view board.new) }
+    // a crash leaves nothing that it might not have left before
+    ensures leaves { B.honest board.old → (f : Form) → IsFormatOf f format
+        → LeavesOnly moment left_since (B.view board.old) (B.view board.new)
+        (MightBe f (B.view board.old).key (B.view board.old).state) }
     ensures settled { B.honest board.old
         → StaysSettled (B.view board.old).state (B.view board.new).state }
     ensures exact { B.honest board.old → (counter : ℕ)
@@ -99,19 +110,10 @@ pub fn mount_after_power<B: Board>(
     ensures writes { (B.view board.new).writes ≡ (B.view board.old).writes }
     ensures memory { result ≢ Err answers.NoMemory }
     ensures accepted { IfOk result (λ header. IsAccepted format header) }
-    // the power goes before any other call, and nothing of the past is forgotten
     ensures honest { B.honest board.old → B.honest board.new
-        × PowerFirst pick true (λ k. Unit {0}) (B.view board.old) (B.view board.new)
-        × KeepsPast (B.view board.old) (B.view board.new) }
-    // at Ok the counter is the sequence, and no other is left open
-    ensures counter { B.honest board.old
-        → IfOk result (λ header. IsSettledAt (sequence_of header) (B.view board.new).state) }
+        × SearchesPowered format pick result (B.view board.old) (B.view board.new) }
     ensures settled { B.honest board.old
         → StaysSettled (B.view board.old).state (B.view board.new).state }
-    // by the rule over what the power left, which reads give still
-    ensures exact { B.honest board.old → (c : CrashImage) × IsLeft (B.view board.old).state c
-        × ((B.view board.new).state.reads ≡ c.image) × ((f : Form) → IsFormatOf f format
-        → IsRuledBy f (B.view board.old) c.image c.counter result) }
     // a refusal is the rule's over what the board then holds
     ensures refusal { B.honest board.old → IfErr result (λ why. (f : Form) → IsFormatOf f format
         → IsRefusedNow f (B.view board.new) why) }

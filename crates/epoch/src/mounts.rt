@@ -9,7 +9,7 @@ ghost use Rattle.epoch.specs.Finding.{IsSettledAt};
 ghost use Rattle.epoch.specs.Forms.{Form, Root, held_in};
 ghost use Rattle.epoch.specs.Mounts.{HandsBack, HandsBackByRule, IsAdmitted, IsAlwaysSound, IsBack, IsFormed, IsFound, IsKeptFromOpening, IsOpenedTo, IsOrdered, IsRefusal, IsRefusalOver, IsReopened, IsSeenOn, IsWrittenAnew, LeavesOpening, LosesPower, LosesPowerByRule, OpensAfterPower, OpensAgain, OpensHonestly, OrderRun, ReopensByRule};
 ghost use Rattle.epoch.specs.Opening.{no_failure};
-ghost use Rattle.epoch.specs.Reopening.{sequence_after, shows_kept};
+ghost use Rattle.epoch.specs.Reopening.{shows_kept};
 
 use crate::answer::{OpenAnswer, Unopened};
 use crate::taking::Reopened;
@@ -101,7 +101,8 @@ pub trait BoardVolume<B: Board>: Volume + Sized {
         ensures back { IsBack Self.keeper result self.new }
         ensures honest { B.honest (board_of self.old) → B.honest (board_of self.new)
             × ReopensByRule form (λ k. (3 < k) × untouched k) result (root self.new)
-            (B.view (board_of self.old)) (B.view (board_of self.new)) }
+            (Self.keeper.held self.new) (B.view (board_of self.old))
+            (B.view (board_of self.new)) }
         ensures root { OnErr result (root self.new ≡ root self.old) }
         ensures bare { OnOk result ((image : ℕ → List ℕ) → keeps self.new image) }
         ensures opened { B.honest (board_of self.old) → IsAlwaysSound Self.keeper form self.old
@@ -122,7 +123,7 @@ pub trait BoardVolume<B: Board>: Volume + Sized {
         ensures back { IsBack Self.keeper result self.new }
         ensures honest { B.honest (board_of self.old) → B.honest (board_of self.new)
             × LosesPowerByRule form (λ k. (3 < k) × untouched k) pick (shows_kept result) result
-            (λ told. IsReopened form told (root self.new)) sequence_after
+            (λ told. IsReopened form told (root self.new)) (Self.keeper.held self.new)
             (B.view (board_of self.old)) (B.view (board_of self.new)) }
         ensures root { OnErr result (root self.new ≡ root self.old) }
         ensures bare { OnOk result ((image : ℕ → List ℕ) → keeps self.new image) }

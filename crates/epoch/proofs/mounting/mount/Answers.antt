@@ -1,5 +1,7 @@
+use Rattle.std.proofs.Common.{ℕ, Bool, subst}
+use Rattle.epoch.specs.Finding.{OpensBelow}
 use Rattle.epoch.proofs.AdmitLemmas.{found_refused, ruled_by}
-use Rattle.epoch.proofs.MountLemmas.{mounts_found}
+use Rattle.epoch.proofs.MountLemmas.{mounts_found, search_leaves}
 use Rattle.epoch.proofs.SettledLemmas.{settled_blocks}
 use Rattle.epoch.proofs.mounting.mount.Goals as goal
 
@@ -29,3 +31,10 @@ returns-clause-refusal g c honest =
 pub returns-clause-settled : goal.returns-clause-settled
 returns-clause-settled g c honest =
     settled_blocks (g.B.Board.view c.args.board.now).state (g.B.Board.view c.find_header.new.board).state (c.find_header.ensures.honest honest).1.blocks
+
+pub returns-clause-leaves : goal.returns-clause-leaves
+returns-clause-leaves g c honest pending f serves =
+    let v = g.B.Board.view c.args.board.now in
+    search_leaves f v (g.B.Board.view c.find_header.new.board) (g.met.B.Board.consistent c.args.board.now honest) pending
+    (λ open_at base low high first below.
+    c.find_header.ensures.run honest open_at base low high first (subst (λ (knows : ℕ → Bool). OpensBelow knows v.key v.state.reads low high) serves.known below))

@@ -1,18 +1,29 @@
-use Rattle.std.proofs.Common.{◌≡◌, ◌∙◌, ℕ, Err, refl, sym, ap, arith, rules, true, false}
+use Rattle.std.proofs.Common.{◌≡◌, ◌∙◌, ℕ, List, Err, refl, sym, ap, arith, rules, true, false}
 use Rattle.epoch.specs.Opening.{no_failure}
 use Rattle.epoch.specs.declared.answer.OpenAnswer.TheVariants.{Failed, NoMemory}
 use Rattle.epoch.proofs.AloneLemmas.{alone_more, alone_synced}
 use Rattle.epoch.proofs.CallLemmas.{run_failed, run_more, run_once}
 use Rattle.epoch.proofs.AdmitLemmas.{ruled_so}
-use Rattle.epoch.proofs.MountLemmas.{again_failed, again_found, failed_ok, stopped}
+use Rattle.epoch.proofs.MountLemmas.{after_sync, again_failed, again_found, failed_ok, leaves_again, rests_found, stopped}
 use Rattle.epoch.proofs.SettledLemmas.{settled_on, settled_sync}
 use Rattle.epoch.proofs.PastLemmas.{followed, once}
 use Rattle.epoch.proofs.mounting.mount_again.Goals as goal
 
 pub returns-in_err-sync-clause-again : goal.returns-in_err-sync-clause-again
 returns-in_err-sync-clause-again g c h f framed same large sound =
+    stopped (search rules) (again_failed f (g.B.Board.view c.args.board.now) (g.met.B.Board.consistent c.args.board.now h) sound (g.B.Board.view c.sync.new.self))
+
+pub returns-in_err-sync-clause-leaves : goal.returns-in_err-sync-clause-leaves
+returns-in_err-sync-clause-leaves g c h f same =
     let step = c.in_err-sync.ensures.honest h in
-    stopped (search rules) (again_failed f (g.B.Board.view c.args.board.now) (g.met.B.Board.consistent c.args.board.now h) sound (g.B.Board.view c.sync.new.self) step.1 step.2)
+    after_sync f (g.B.Board.view c.args.board.now) (g.met.B.Board.consistent c.args.board.now h) false (g.B.Board.view c.sync.new.self) step.1 step.2
+
+pub returns-clause-leaves : goal.returns-clause-leaves
+returns-clause-leaves g c h f same =
+    let step = c.in_ok-sync.ensures.honest h in
+    leaves_again f (g.B.Board.view c.args.board.now) (g.met.B.Board.consistent c.args.board.now h) (g.B.Board.view c.sync.new.self) (g.B.Board.view c.mount.new.board)
+    c.in_ok-sync.ensures.call.key step.1 step.2
+    (c.mount.ensures.leaves step.0 (λ k. step.2.settled refl k) f same)
 
 pub returns-clause-exact : goal.returns-clause-exact
 returns-clause-exact g c h =
@@ -34,7 +45,7 @@ returns-clause-again g c h f framed same large sound =
     let step = c.in_ok-sync.ensures.honest h in
     let call = c.in_ok-sync.ensures.call in
     again_found f (g.B.Board.view c.args.board.now) (g.met.B.Board.consistent c.args.board.now h) sound (g.B.Board.view c.sync.new.self) (g.B.Board.view c.mount.new.board)
-    c.mount.result call.key step.1 step.2
+    c.mount.result call.key step.2
     (λ held holding. c.mount.ensures.holds step.0 f held framed same (omega (arith, large, call.size)) holding)
 
 pub returns-in_err-sync-clause-settled : goal.returns-in_err-sync-clause-settled
@@ -67,11 +78,16 @@ returns-clause-alone g c h =
     alone_more (λ (k : ℕ). Unit {0}) _ _ _ (alone_synced (λ (k : ℕ). Unit {0}) true _ _ (g.met.B.Board.consistent c.args.board.now h) step.1 step.2)
     (c.mount.ensures.honest step.0).1.alone
 
-pub returns-in_err-sync-clause-counter : goal.returns-in_err-sync-clause-counter
-returns-in_err-sync-clause-counter g c h = failed_ok c.from_residual.result _ (search rules)
+pub returns-in_err-sync-clause-rests : goal.returns-in_err-sync-clause-rests
+returns-in_err-sync-clause-rests g c h = failed_ok c.from_residual.result _ (search rules)
 
-pub returns-clause-counter : goal.returns-clause-counter
-returns-clause-counter g c h = (c.mount.ensures.honest (c.in_ok-sync.ensures.honest h).0).1.counter
+pub returns-clause-rests : goal.returns-clause-rests
+returns-clause-rests g c h =
+    let step = c.in_ok-sync.ensures.honest h in
+    let found = (c.mount.ensures.honest step.0).1 in
+    let mid = (g.B.Board.view c.sync.new.self).state in
+    rests_found mid (g.B.Board.view c.mount.new.board).state (λ k. ap (λ (f : ℕ → List ℕ). f k) step.2.reads ∙ sym (step.2.durable refl k)) (λ k. step.2.settled refl k)
+    found.blocks c.mount.result found.counter
 
 pub returns-in_err-sync-clause-search : goal.returns-in_err-sync-clause-search
 returns-in_err-sync-clause-search g c =
