@@ -14,8 +14,8 @@ use Rattle.epoch.specs.Commits.{IsMounted, OpensTo}
 use Rattle.epoch.specs.Finding.{Finds, IsSettledAt, OpensBelow, sequence_of}
 use Rattle.epoch.specs.Formats.{IsFormatOf, accepts}
 use Rattle.epoch.specs.Forms.{Form, IsFramed, Root, blank_leaves, held_in, held_by, held_of, is_sealed, leaves_of, root_of}
-use Rattle.epoch.specs.Mounting.{AreSound, IsHolding, Mounts, MountsAfterPower, MountsAgain, MountsTo, after_found, after_opening, after_version, opened_by}
-use Rattle.epoch.specs.Mounts.{IsLeftSound, IsOpenedTo, LeavesOpening, LeftByOpening, MakesBy, MakesOf, MightBe}
+use Rattle.epoch.specs.Mounting.{AreSound, IsHolding, Mounts, MountsAfterPower, MountsAgain, MountsTo, after_again, after_found, after_opening, after_version, opened_by}
+use Rattle.epoch.specs.Mounts.{IsLeftSound, IsOpenedTo, LeavesOpening, LeftByOpening, MakesBy, MakesOf, MightBe, RemakesOf}
 use Rattle.epoch.specs.Opening.{answer_at, header_answer, opening_by, opening_of, opens_as}
 use Rattle.epoch.specs.Past.{KeepsPast}
 use Rattle.epoch.specs.Slots.{slot_of}
@@ -372,6 +372,12 @@ left_as_read v is n among = record {
   orders = refl;
 }
 
+-- so what an image that is read holds beside such a counter is something that a crash might leave
+pub might_as_read : (f : Form) (v : View) → IsConsistent v → (n : ℕ) → IsCounter v.state n → (h : Held) → held_in f v.key v.state.reads n ≡ Some h
+    → (d : CrashImage) × IsLeft v.state d × (held_of f v.key d ≡ Some h)
+unfolding outcome_as_read
+might_as_read f v is n among h holds = (outcome_as_read v.state n, left_as_read v is n among, holds)
+
 -- a search over a board of which nothing is pending leaves nothing that might not have been left before
 module _ (f : Form) (old new : View) (is : IsConsistent old) (pending : (k : ℕ) → old.state.pending k ≡ false)
     (goes : (open_at : ℕ → Bool) (base : ℕ → List ℕ) (low high : ℕ) (first : View) → OpensBelow f.known old.key old.state.reads low high
@@ -717,6 +723,16 @@ module _ (f : Form) where
 
   pub opened_to : (view : View) (h : Held) → IsOpenedTo f view h (after_opening f view h)
   opened_to view h = makes_of (opening_of f.known view.key view.state.reads view.state.counter) h
+
+  -- and what a reopening makes of it, by the header that was found
+  pub remakes_found : (o : Result (Option Found) OpenAnswer) (found : Option Header) (h : Held) → header_answer o ≡ Ok found → RemakesOf f o h (after_again f found h)
+  remakes_found (Ok None) found h is =
+      let none : found ≡ None = cc in
+      ap (λ (x : Option Header). after_again f x h) none
+  remakes_found (Ok (Some w)) found h is =
+      let some : found ≡ Some w.header = cc in
+      subst (λ (x : Option Header). MakesBy f (w.header.version == f.version) h (after_again f x h)) (sym some) (made_by (w.header.version == f.version) h)
+  remakes_found (Err answer) found h is = absurd (cc)
 
 -- a crash that leaves what was held, or what an opening makes of it
 pub leaves_opening : (f : Form) (old new : View) (h after : Held) → IsOpenedTo f old h after
