@@ -1,5 +1,5 @@
 -- What a crash may leave of a volume is of the version that is written.
-use Rattle.std.proofs.Common.{◌≡◌, ◌≤◌, ◌∙◌, ◌⊎◌, ℕ, List, Option, None, Some, Err, sym, ap, subst, inl, ⊎_elim}
+use Rattle.std.proofs.Common.{◌≡◌, ◌∙◌, ℕ, List, Option, None, Some, Err, sym, ap, subst, inl, ⊎_elim}
 use Rattle.tee_base.specs.Crash.{LeavesOnly}
 use Rattle.store_api.specs.Volumes.{Held, LeftByCommit, after_commit}
 use Rattle.store_api.specs.declared.leaves.Leaf.{Leaf}
@@ -7,7 +7,7 @@ use Rattle.store_api.specs.declared.leaves.LeafAnswer.{LeafAnswer}
 use Rattle.store_api.specs.declared.leaves.LeafAnswer.TheVariants as answers
 use Rattle.board.specs.Moment.{CrashImage, View, left_since, moment}
 use Rattle.epoch.specs.Forms.{held_of}
-use Rattle.epoch.specs.Mounting.{MightBe}
+use Rattle.epoch.specs.Mounts.{MightBe}
 use Rattle.epoch.specs.declared.header.TreeEntry.{TreeEntry}
 use Rattle.epoch.proofs.LeftLemmas.{rests_in_use, since_earlier}
 use Rattle.tree_paths.specs.Form.{form_root}

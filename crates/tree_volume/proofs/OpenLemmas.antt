@@ -1,5 +1,5 @@
 -- What the opening of a tree leaves, over what was found on its board.
-use Rattle.std.proofs.Common.{◌≡◌, ◌<◌, ◌≤◌, ◌+◌, ◌⊎◌, ◌==◌, ◌||◌, ◌∙◌, not, if◌then◌else◌, ℕ, Bool, true, false, nat_lt, List}
+use Rattle.std.proofs.Common.{◌≡◌, ◌<◌, ◌≤◌, ◌+◌, ◌⊎◌, ◌==◌, ◌||◌, ◌∙◌, not, ℕ, Bool, true, false, nat_lt, List}
 use Rattle.std.proofs.Common.{[], Option, Some, None, Result, Ok, Err, IfOk, refl, sym, ap, subst, inl, inr, ⊎_elim, arith}
 use Rattle.std.proofs.lemmas.Bool.{cases_lt, false≢true, lt-ltb}
 use Rattle.tee_base.specs.Crash.{LeavesOnly}
@@ -15,7 +15,8 @@ use Rattle.epoch.specs.Mounts.{IsKeptFromOpening, LeavesOpening, LeftByOpening, 
 use Rattle.epoch.specs.declared.answer.OpenAnswer.{OpenAnswer}
 use Rattle.epoch.specs.declared.header.Header.{Header}
 use Rattle.epoch.specs.declared.header.TreeEntry.{TreeEntry}
-use Rattle.epoch.proofs.OpenLemmas.{after_other, after_written, formatted, in_use_with, leaves_format, mounted_written, rests_so}
+use Rattle.epoch.specs.declared.taking.TheConstants.{NO_ROOT}
+use Rattle.epoch.proofs.OpenLemmas.{after_other, after_written, blank_root, formatted, in_use_with, leaves_format, mounted_written, rests_so}
 use Rattle.migration.specs.Migrating.{Migrates, taken_over}
 use Rattle.tree_paths.specs.Form.{form_root}
 use Rattle.tree_paths.specs.Shape.{first_shape}
@@ -45,6 +46,16 @@ opens_written view header h written mounts =
       opened = (open_so.0, open_so.1 ∙ sym (after_written volume_form header h written));
       failed = tt;
       leaves = rests_so volume_form volume_framed view (form_root header.root) h (after_found volume_form (Some header) h) (mounted_written volume_form view h header written mounts);
+    }
+
+-- a blank board is empty at the sequence 0, and nothing is written
+pub opens_blank : (view : View) (h : Held) → MountsTo volume_form view.key h view.state None → Opens h h (Ok (record { root = NO_ROOT; sequence = 0 })) view view
+opens_blank view h mounts =
+    let mounted = mounts.1 (form_root NO_ROOT) (blank_root volume_form) in
+    record {
+      opened = in_use_with volume_form view (form_root NO_ROOT) 0 h mounted (sym mounts.0);
+      failed = tt;
+      leaves = rests_so volume_form volume_framed view (form_root NO_ROOT) h h mounted;
     }
 
 -- of the accepted versions the one that isn't written is the first

@@ -1,5 +1,5 @@
 -- What is made of the header that was found, by the rule and by the form.
-use Rattle.std.proofs.Common.{◌≡◌, ◌≢◌, ◌≤◌, ◌<◌, ◌+◌, ◌^◌, ◌==◌, ◌⊎◌, ◌∙◌, if◌then◌else◌, nat_lt, ℕ, Bool, true, false, List}
+use Rattle.std.proofs.Common.{◌≡◌, ◌<◌, ◌^◌, ◌==◌, ◌⊎◌, ◌∙◌, if◌then◌else◌, nat_lt, ℕ, Bool, true, false, List}
 use Rattle.std.proofs.Common.{Option, Some, None, Result, Ok, Err, IfErr, IfOk, refl, sym, ap, subst, inl, inr, ⊎_elim, arith}
 use Rattle.board.specs.Moment.{IsCounter, Moment, View}
 use Rattle.board.specs.Steps.{Unchanged}
@@ -8,7 +8,7 @@ use Rattle.epoch.specs.Mounts.{IsAdmittedTo, IsFound, IsKeptFromOpening, IsRefus
 use Rattle.epoch.specs.Mounts.{admission, refusal_of}
 use Rattle.epoch.specs.Opening.{header_answer, is_no_failure, opening_of, opens_as}
 use Rattle.epoch.specs.declared.answer.OpenAnswer.{OpenAnswer}
-use Rattle.epoch.specs.declared.answer.OpenAnswer.TheVariants.{Failed, NoMemory, TooSmall}
+use Rattle.epoch.specs.declared.answer.OpenAnswer.TheVariants.{Failed, TooSmall}
 use Rattle.epoch.specs.declared.header.Header.{Header}
 use Rattle.epoch.specs.declared.header.TreeEntry.{TreeEntry}
 use Rattle.epoch.specs.declared.rule.Found.{Found}

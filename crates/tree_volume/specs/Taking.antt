@@ -1,5 +1,5 @@
 -- What is made of the header that was found, and what that leaves.
-use Rattle.std.specs.Prelude.{◌≡◌, ◌≢◌, ◌⊎◌, ◌<◌, ℕ, None, Some, Option, Err, Result, IfErr, IfOk}
+use Rattle.std.specs.Prelude.{◌≡◌, ◌≢◌, ◌⊎◌, ◌<◌, None, Some, Option, Err, Result, IfErr, IfOk}
 use Rattle.tee_base.specs.Faults.{Rose}
 use Rattle.board.specs.Moment.{View}
 use Rattle.board.specs.Steps.{CallRun, SameBlocks}

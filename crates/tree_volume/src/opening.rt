@@ -8,7 +8,7 @@ ghost use Rattle.board.specs.Steps.{CallRun, SameBlocks};
 ghost use Rattle.epoch.specs.Alone.{LeavesAlone};
 ghost use Rattle.epoch.specs.Finding.{IsSettledAt};
 ghost use Rattle.epoch.specs.Forms.{held_in};
-ghost use Rattle.epoch.specs.Mounting.{MountsTo, after_found, after_opening};
+ghost use Rattle.epoch.specs.Mounting.{MountsTo, after_again, after_found, after_opening};
 ghost use Rattle.epoch.specs.Mounts.{IsAdmitted, IsFound, IsKeptFromOpening, IsRefusal, IsRefusalOver, IsRefusedNow, TakesUp};
 ghost use Rattle.epoch.specs.Reopening.{reopened_of, sequence_after};
 ghost use Rattle.epoch.specs.Formats.{IsAccepted, accepts};
@@ -130,10 +130,9 @@ fn take_again<B: Board>(
     // nothing is called where no header counts, or it is of the version that is written
     ensures same { (reopened_of TREE_VERSION found).rewritten ≡ false
         → (B.view board.new ≡ B.view board.old) × OnErr result ⊥ }
-    ensures opened { (reopened_of TREE_VERSION found).rewritten ≡ false → (h : Held)
+    ensures opens { B.honest board.old → (h : Held)
         → MountsTo volume_form (B.view board.old).key h (B.view board.old).state found
-        → IfOk result (λ o. IsOpen (B.view board.old) o.root o.sequence
-        × (held_now (B.view board.old) o.root o.sequence ≡ h)) }
+        → Opens h (after_again volume_form found h) result (B.view board.old) (B.view board.new) }
 {
     match found {
         Some(header) => take_header(alloc, board, keys, header),
@@ -169,10 +168,6 @@ fn take_header<B: Board>(
         → MountsTo volume_form (B.view board.old).key h (B.view board.old).state (Some header)
         → Opens h (after_found volume_form (Some header) h) result
         (B.view board.old) (B.view board.new) }
-    ensures opened { (header.version == TREE_VERSION) ≡ true → (h : Held)
-        → MountsTo volume_form (B.view board.old).key h (B.view board.old).state (Some header)
-        → IfOk result (λ o. IsOpen (B.view board.old) o.root o.sequence
-        × (held_now (B.view board.old) o.root o.sequence ≡ h)) }
 {
     if header.version == TREE_VERSION {
         return Ok(Opened {

@@ -1,16 +1,17 @@
-use Rattle.std.proofs.Common.{◌≡◌, ◌<◌, ◌==◌, ◌∙◌, ℕ, false, Option, None, Some, Ok, refl, sym, ap, subst}
-use Rattle.epoch.specs.Mounting.{MountsTo}
+use Rattle.std.proofs.Common.{◌≡◌, ◌<◌, ◌∙◌, ℕ, false, Option, Ok, refl, sym, ap, subst}
+use Rattle.epoch.specs.Mounting.{MountsTo, after_again}
 use Rattle.epoch.specs.Mounts.{TakesUp}
 use Rattle.epoch.specs.Reopening.{reopened_of, sequence_after}
 use Rattle.epoch.specs.declared.header.Header.{Header}
 use Rattle.epoch.specs.declared.taking.TheConstants.{NO_ROOT}
 use Rattle.epoch.proofs.AloneLemmas.{alone_none}
 use Rattle.epoch.proofs.CallLemmas.{run_none}
-use Rattle.epoch.proofs.OpenLemmas.{blank_root, in_use_with}
 use Rattle.epoch.proofs.PastLemmas.{itself}
 use Rattle.tree_paths.specs.Form.{form_root}
 use Rattle.old_volume.specs.Versions.{volume_form}
+use Rattle.tree_volume.specs.Opens.{Opens}
 use Rattle.tree_volume.specs.Taking.{Takes, TakesByForm, TakesHonestly}
+use Rattle.tree_volume.proofs.OpenLemmas.{opens_blank}
 use Rattle.tree_volume.proofs.TakeLemmas.{ok_weaker}
 use Rattle.tree_volume.proofs.ReopenLemmas.{written_so}
 use Rattle.tree_volume.proofs.opening.take_again.Goals as goal
@@ -45,11 +46,12 @@ pub returns-in-Some-clause-same : goal.returns-in-Some-clause-same
 returns-in-Some-clause-same g c kept =
     c.take_header.ensures.same (written_so c.in-Some.header.version (subst (λ (f : Option Header). (reopened_of 2 f).rewritten ≡ false) c.in-Some.is kept))
 
-pub returns-in-Some-clause-opened : goal.returns-in-Some-clause-opened
-returns-in-Some-clause-opened g c kept h mounts =
+pub returns-in-Some-clause-opens : goal.returns-in-Some-clause-opens
+returns-in-Some-clause-opens g c honest h mounts =
     let v = g.B.Board.view c.args.board.now in
-    c.take_header.ensures.opened (written_so c.in-Some.header.version (subst (λ (f : Option Header). (reopened_of 2 f).rewritten ≡ false) c.in-Some.is kept)) h
-    (subst (MountsTo volume_form v.key h v.state) c.in-Some.is mounts)
+    let n = g.B.Board.view c.take_header.new.board in
+    subst (λ (f : Option Header). Opens h (after_again volume_form f h) c.take_header.result v n) (sym c.in-Some.is)
+    (c.take_header.ensures.opens honest h (subst (MountsTo volume_form v.key h v.state) c.in-Some.is mounts))
 
 pub returns-in-None-clause-takes : goal.returns-in-None-clause-takes
 returns-in-None-clause-takes g c = record { calls = run_none _; cause = λ failed. absurd (cc); unwritten = tt }
@@ -78,8 +80,8 @@ returns-in-None-clause-taken g c = subst (λ (f : Option Header). TakesUp volume
 pub returns-in-None-clause-sequence : goal.returns-in-None-clause-sequence
 returns-in-None-clause-sequence g c = ap (λ (f : Option Header). sequence_after (reopened_of 2 f)) (sym c.in-None.is)
 
-pub returns-in-None-clause-opened : goal.returns-in-None-clause-opened
-returns-in-None-clause-opened g c kept h mounts =
+pub returns-in-None-clause-opens : goal.returns-in-None-clause-opens
+returns-in-None-clause-opens g c honest h mounts =
     let v = g.B.Board.view c.args.board.now in
-    let none = subst (MountsTo volume_form v.key h v.state) c.in-None.is mounts in
-    in_use_with volume_form v (form_root NO_ROOT) 0 h (none.1 (form_root NO_ROOT) (blank_root volume_form)) (sym none.0)
+    subst (λ (f : Option Header). Opens h (after_again volume_form f h) (Ok (record { root = NO_ROOT; sequence = 0 })) v v) (sym c.in-None.is)
+    (opens_blank v h (subst (MountsTo volume_form v.key h v.state) c.in-None.is mounts))

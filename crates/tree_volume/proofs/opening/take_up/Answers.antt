@@ -1,4 +1,4 @@
-use Rattle.std.proofs.Common.{◌≡◌, Option, None, Some, inl, refl, sym, subst}
+use Rattle.std.proofs.Common.{Option, inl, refl, sym, subst}
 use Rattle.epoch.specs.Mounting.{MountsTo, after_found}
 use Rattle.epoch.specs.Mounts.{TakesUp}
 use Rattle.epoch.specs.declared.header.Header.{Header}

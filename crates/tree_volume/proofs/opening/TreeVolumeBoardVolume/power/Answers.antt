@@ -1,4 +1,4 @@
-use Rattle.std.proofs.Common.{◌≡◌, ◌≢◌, ◌<◌, ◌∙◌, ℕ, List, Ok, Err, Option, Some, true, false, refl, sym, ap, subst, inl, rules}
+use Rattle.std.proofs.Common.{◌≡◌, ◌<◌, ◌∙◌, ℕ, List, Ok, Err, Option, Some, true, refl, sym, ap, subst, inl, rules}
 use Rattle.std.proofs.lemmas.Bool.{false≢true}
 use Rattle.tee_base.specs.Crash.{LeavesOnly}
 use Rattle.store_api.specs.Volumes.{Held}
@@ -12,8 +12,8 @@ use Rattle.epoch.proofs.OpenLemmas.{not_ok, told_so}
 use Rattle.epoch.proofs.PastLemmas.{followed}
 use Rattle.epoch.specs.Finding.{IsSettledAt, sequence_of}
 use Rattle.epoch.specs.Forms.{held_of}
-use Rattle.epoch.specs.Mounting.{MightBe, MountsTo}
-use Rattle.epoch.specs.Mounts.{IsAdmittedTo, IsRefusal, IsRefusedNow, IsReopened, LeftByOrder, LosesPower, PowerFirst}
+use Rattle.epoch.specs.Mounting.{MountsTo}
+use Rattle.epoch.specs.Mounts.{IsAdmittedTo, IsRefusal, IsRefusedNow, IsReopened, LeftByOrder, LosesPower, LosesPowerByRule, MightBe, PowerFirst}
 use Rattle.epoch.specs.Opening.{no_failure}
 use Rattle.epoch.specs.Past.{KeepsPast}
 use Rattle.epoch.specs.Reopening.{reopened_of, sequence_after, shows_kept}
@@ -26,8 +26,8 @@ use Rattle.old_volume.specs.Versions.{volume_form}
 use Rattle.old_volume.proofs.FramedLemmas.{volume_format, volume_framed}
 use Rattle.tree_volume.specs.Keeping.{held_now}
 use Rattle.tree_volume.proofs.AnewLemmas.{anew_before, anew_open}
-use Rattle.tree_volume.proofs.ReopenLemmas.{admitted_then, counter_then, found_anew, not_rewritten, open_as, other_answer, reads_then, refusal_then, refused_then}
-use Rattle.tree_volume.proofs.ReopenLemmas.{begins_kept, begins_then, loses_more}
+use Rattle.tree_volume.proofs.ReopenLemmas.{admitted_then, after_kept, found_anew, keeps_err, keeps_ok, keeps_search, mounted_then, not_rewritten, open_as}
+use Rattle.tree_volume.proofs.ReopenLemmas.{begins_kept, begins_then, loses_more, other_answer, reads_then, refusal_then, refused_then, settled_at}
 use Rattle.tree_volume.proofs.opening.TreeVolumeBoardVolume.power.Goals as goal
 
 -- ---- no header was found
@@ -39,6 +39,8 @@ returns-in_err-found-clause-opened g c honest sound =
     let is : c.from_residual.result ≡ Err c.in_err-found.field-0.0 = search rules in
     let after = c.in_err-found.ensures.again honest volume_form volume_framed volume_format c.args.self.now.large (board_sound volume_form v sound.sound) in
     let again = after.again in
+    let hon = (c.in_err-found.ensures.honest honest).1 in
+    let run = hon.leaves volume_form volume_format in
     let key = c.in_err-found.ensures.calls.order.key in
     record {
       again = record {
@@ -51,13 +53,13 @@ returns-in_err-found-clause-opened g c honest sound =
           (c.in_err-found.ensures.honest honest).0,
           λ live. absurd (false≢true (sym live)),
           steady_same volume_form volume_framed v w (form_root c.args.self.now.root) key (c.in_err-found.ensures.settled honest) is.2,
-          anew_before v w key again.leaves is.3,
+          anew_before v w key run is.3,
         );
         same = λ is. on_err c.from_residual.result _
             (held_steady volume_form volume_framed v w (form_root c.args.self.now.root) c.args.self.now.sequence key (c.in_err-found.ensures.settled honest) is.2);
         leaves = record {
-          crash = before_above volume_form (λ x. g.B.Board.view x.board) _ _ key again.leaves;
-          past = past_above volume_form v w key (c.in_err-found.ensures.honest honest).2;
+          crash = before_above volume_form (λ x. g.B.Board.view x.board) _ _ key run;
+          past = past_above volume_form v w key hon.past;
         };
       };
       chosen = again.chosen;
@@ -84,18 +86,17 @@ returns-in_err-found-clause-honest g c honest =
     let w = g.B.Board.view c.mount_after_power.new.board in
     let is : c.from_residual.result ≡ Err c.in_err-found.field-0.0 = search rules in
     let hon = c.in_err-found.ensures.honest honest in
-    let told = c.in_err-found.ensures.exact honest in (
+    let left = hon.1.begins.powered.left in (
       hon.0,
       record {
-        begins = begins_kept c.args.pick (shows_kept c.from_residual.result) v w hon.1;
-        past = hon.2;
+        begins = begins_kept c.args.pick (shows_kept c.from_residual.result) v w hon.1.begins;
+        past = hon.1.past;
         exact = (
-          told.0,
-          told.1,
-          told_so c.from_residual.result c.in_err-found.field-0.0 (λ why. IsRefusal volume_form v told.0.image told.0.counter why) is
-              (lifted volume_form v.key told.0.image _ c.in_err-found.field-0.0 (told.3 volume_form volume_format).0),
+          told_so c.from_residual.result c.in_err-found.field-0.0 (λ why. IsRefusal volume_form v left.image left.counter why) is
+              (lifted volume_form v.key left.image _ c.in_err-found.field-0.0 (hon.1.ruled volume_form volume_format).0),
           not_ok c.from_residual.result _ c.from_residual.ensures.0,
         );
+        holds = λ h held. keeps_search v w left.image left.counter c.from_residual.result _ h c.from_residual.ensures.0 (hon.1.leaves volume_form volume_format);
         counter = not_ok c.from_residual.result _ c.from_residual.ensures.0;
         refusal = told_so c.from_residual.result c.in_err-found.field-0.0 (λ why. IsRefusedNow volume_form w why) is (c.in_err-found.ensures.refusal honest volume_form volume_format);
       },
@@ -136,31 +137,36 @@ returns-in_err-opened-clause-honest g c honest =
     let is : c.from_residual-in_err-opened.result ≡ Err e = search rules in
     let found = c.in_ok-found.ensures in
     let hon = found.honest honest in
-    let told = found.exact honest in
+    let power = hon.1 in
+    let left = power.begins.powered.left in
+    let ruled = power.ruled volume_form volume_format in
     let take = c.in_err-opened.ensures.honest hon.0 in
     let form = c.in_err-opened.ensures.told (g.met.B.Board.honest_reads c.mount_after_power.new.board hon.0) in
     let calls = c.in_err-opened.ensures.takes.calls in
     let order = found.calls.order in
     let fits = (g.met.B.Board.consistent c.take_again.new.board take.0).counter in
-    let settled : IsSettledAt (sequence_of c.in_ok-found.found) w.state = found.counter honest in (
+    let settled : IsSettledAt (sequence_of c.in_ok-found.found) w.state = settled_at (sequence_of c.in_ok-found.found) w.state power.rests in (
       take.0,
       record {
-        begins = begins_then c.args.pick (shows_kept c.from_residual-in_err-opened.result) v w n hon.1 calls.ordered take.1.past.behind take.1.alone
-            (λ kept. reads_then v w n c.in_ok-found.found order.size order.key calls.size calls.key fits told.0.image told.2 told.0.counter
-            (told.3 volume_form volume_format) settled e take.1 (ap shows_kept (sym is) ∙ kept));
-        past = followed _ _ _ hon.2 take.1.past;
+        begins = begins_then c.args.pick (shows_kept c.from_residual-in_err-opened.result) v w n power.begins calls.ordered take.1.past.behind take.1.alone
+            (λ kept. reads_then v w n c.in_ok-found.found order.size order.key calls.size calls.key fits left.image power.reads left.counter
+            ruled settled e take.1 (ap shows_kept (sym is) ∙ kept));
+        past = followed _ _ _ power.past take.1.past;
         exact = (
-          told.0,
-          told.1,
-          told_so c.from_residual-in_err-opened.result e (λ why. IsRefusal volume_form v told.0.image told.0.counter why) is
-              (refusal_then v w n c.in_ok-found.found order.size order.key calls.size calls.key fits told.0.image told.2 told.0.counter
-              (told.3 volume_form volume_format) settled e form),
+          told_so c.from_residual-in_err-opened.result e (λ why. IsRefusal volume_form v left.image left.counter why) is
+              (refusal_then v w n c.in_ok-found.found order.size order.key calls.size calls.key fits left.image power.reads left.counter ruled settled e form),
           not_ok c.from_residual-in_err-opened.result _ c.from_residual-in_err-opened.ensures.0,
         );
+        holds = λ h held.
+            let might : (d : CrashImage) × IsLeft v.state d × (held_of volume_form v.key d ≡ Some h) = (left, power.begins.powered.may, held) in
+            let run = power.leaves volume_form volume_format in
+            keeps_err v w n c.in_ok-found.found order.key calls.key left.image power.reads left.counter ruled power.rests h held might run
+            c.from_residual-in_err-opened.result e _ is
+            (c.in_err-opened.ensures.opens hon.0 h
+            (mounted_then v w n c.in_ok-found.found order.key calls.key left.image power.reads left.counter ruled power.rests h held might run));
         counter = not_ok c.from_residual-in_err-opened.result _ c.from_residual-in_err-opened.ensures.0;
         refusal = told_so c.from_residual-in_err-opened.result e (λ why. IsRefusedNow volume_form n why) is
-            (refused_then v w n c.in_ok-found.found order.size order.key calls.size calls.key fits told.0.image told.2 told.0.counter
-            (told.3 volume_form volume_format) settled (Err e) form take.1);
+            (refused_then v w n c.in_ok-found.found order.size order.key calls.size calls.key fits left.image power.reads left.counter ruled settled (Err e) form take.1);
       },
     )
 
@@ -201,14 +207,17 @@ returns-clause-opened g c honest sound =
     let stays : n ≡ w = ap g.B.Board.view c.resume.ensures.board ∙ (c.in_ok-opened.ensures.same kept).0 in
     let key = c.in_ok-found.ensures.calls.order.key in
     let mounted = subst (λ (k : List ℕ). MountsTo volume_form k again.chosen w.state c.in_ok-found.found) (sym key) again.mounted in
-    let both = open_as w n c.in_ok-opened.opened.root root c.in_ok-opened.opened.sequence sequence again.chosen stays c.resume.ensures.root c.resume.ensures.sequence
-    (c.in_ok-opened.ensures.opened kept again.chosen mounted) in
+    let hon = c.in_ok-found.ensures.honest honest in
+    let opens = c.in_ok-opened.ensures.opens hon.0 again.chosen mounted in
+    let both = open_as (g.B.Board.view c.take_again.new.board) n c.in_ok-opened.opened.root root c.in_ok-opened.opened.sequence sequence again.chosen
+    (ap g.B.Board.view c.resume.ensures.board) c.resume.ensures.root c.resume.ensures.sequence
+    (opens.opened.0, opens.opened.1 ∙ after_kept c.in_ok-found.found again.chosen kept) in
     let key' : n.key ≡ v.key = ap (λ (x : View). x.key) stays ∙ key in
     let held : Some again.chosen ≡ Some (held_now n root sequence) = ap (λ (h : Held). let o : Option Held = Some h in o) (sym both.1) in
     let run : LeavesOnly moment left_since v n (MightBe volume_form v.key v.state)
-    = subst (λ (x : View). LeavesOnly moment left_since v x (MightBe volume_form v.key v.state)) (sym stays) again.leaves in
-    let past : KeepsPast v n = subst (KeepsPast v) (sym stays) (c.in_ok-found.ensures.honest honest).2 in
-    let honest' = subst g.B.Board.honest (sym c.resume.ensures.board) (c.in_ok-opened.ensures.honest (c.in_ok-found.ensures.honest honest).0).0 in
+    = subst (λ (x : View). LeavesOnly moment left_since v x (MightBe volume_form v.key v.state)) (sym stays) (hon.1.leaves volume_form volume_format) in
+    let past : KeepsPast v n = subst (KeepsPast v) (sym stays) hon.1.past in
+    let honest' = subst g.B.Board.honest (sym c.resume.ensures.board) (c.in_ok-opened.ensures.honest hon.0).0 in
     let steady = steady_in_use volume_form volume_framed n (form_root root) sequence both.0 in
     let new = anew_open n root sequence both.0 in
     let rests : (d : CrashImage) → IsLeft n.state d → held_of volume_form v.key d ≡ Some again.chosen
@@ -244,30 +253,42 @@ returns-clause-honest g c honest =
     let is : c.reopened_from.result ≡ reopened_of 2 c.in_ok-found.found = c.reopened_from.ensures in
     let found = c.in_ok-found.ensures in
     let hon = found.honest honest in
-    let told = found.exact honest in
+    let power = hon.1 in
+    let left = power.begins.powered.left in
+    let ruled = power.ruled volume_form volume_format in
     let take = c.in_ok-opened.ensures.honest hon.0 in
     let form = c.in_ok-opened.ensures.told (g.met.B.Board.honest_reads c.mount_after_power.new.board hon.0) in
     let calls = c.in_ok-opened.ensures.takes.calls in
     let order = found.calls.order in
     let fits = (g.met.B.Board.consistent c.take_again.new.board take.0).counter in
-    let settled : IsSettledAt (sequence_of c.in_ok-found.found) w.state = found.counter honest in (
+    let now : Held = held_now m c.resume.new.self.root c.resume.new.self.sequence in
+    let settled : IsSettledAt (sequence_of c.in_ok-found.found) w.state = settled_at (sequence_of c.in_ok-found.found) w.state power.rests in
+    let begins : PowerFirst c.args.pick (shows_kept (Ok c.reopened_from.result)) (λ (k : ℕ). (3 < k) × (k < 8742)) v n
+    = begins_then c.args.pick (shows_kept (Ok c.reopened_from.result)) v w n power.begins calls.ordered take.1.past.behind take.1.alone
+    (λ kept. ap (λ (x : View). x.state.reads) (c.in_ok-opened.ensures.same (ap (λ (t : Reopened). t.rewritten) (sym is) ∙ not_rewritten c.reopened_from.result.rewritten kept)).0) in (
       subst g.B.Board.honest (sym c.resume.ensures.board) take.0,
-      record {
-        begins = subst (PowerFirst c.args.pick (shows_kept (Ok c.reopened_from.result)) (λ (k : ℕ). (3 < k) × (k < 8742)) v) (sym stays)
-            (begins_then c.args.pick (shows_kept (Ok c.reopened_from.result)) v w n hon.1 calls.ordered take.1.past.behind take.1.alone
-            (λ kept. ap (λ (x : View). x.state.reads) (c.in_ok-opened.ensures.same (ap (λ (t : Reopened). t.rewritten) (sym is) ∙ not_rewritten c.reopened_from.result.rewritten kept)).0));
-        past = subst (KeepsPast v) (sym stays) (followed _ _ _ hon.2 take.1.past);
-        exact = (
-          told.0,
-          told.1,
-          tt,
-          subst (λ (r : TreeEntry). IsAdmittedTo volume_form v told.0.image told.0.counter (IsReopened volume_form c.reopened_from.result (form_root r))) (sym c.resume.ensures.root)
-              (admitted_then v w n c.in_ok-found.found order.size order.key calls.size calls.key fits told.0.image told.2 told.0.counter
-              (told.3 volume_form volume_format) settled c.in_ok-opened.opened c.reopened_from.result is c.in_ok-opened.ensures.sequence c.in_ok-opened.ensures.taken form),
-        );
-        counter = subst (λ (x : View). IsSettledAt (sequence_after c.reopened_from.result) x.state) (sym stays)
-            (counter_then v w n c.in_ok-found.found order.size order.key calls.size calls.key fits told.0.image told.2 told.0.counter
-            (told.3 volume_form volume_format) settled c.in_ok-opened.opened c.reopened_from.result is c.in_ok-opened.ensures.sequence take.1);
-        refusal = tt;
-      },
+      subst
+          (LosesPowerByRule volume_form (λ (k : ℕ). (3 < k) × (k < 8742)) c.args.pick (shows_kept (Ok c.reopened_from.result)) (Ok c.reopened_from.result)
+          (λ told. IsReopened volume_form told (form_root c.resume.new.self.root)) now v)
+          (sym stays) (record {
+            begins = begins;
+            past = followed _ _ _ power.past take.1.past;
+            exact = (
+              tt,
+              subst (λ (r : TreeEntry). IsAdmittedTo volume_form v left.image left.counter (IsReopened volume_form c.reopened_from.result (form_root r))) (sym c.resume.ensures.root)
+                  (admitted_then v w n c.in_ok-found.found order.size order.key calls.size calls.key fits left.image power.reads left.counter
+                  ruled settled c.in_ok-opened.opened c.reopened_from.result is c.in_ok-opened.ensures.sequence c.in_ok-opened.ensures.taken form),
+            );
+            holds = λ h held.
+                let might : (d : CrashImage) × IsLeft v.state d × (held_of volume_form v.key d ≡ Some h) = (left, power.begins.powered.may, held) in
+                let run = power.leaves volume_form volume_format in
+                let same : now ≡ held_now n c.in_ok-opened.opened.root c.in_ok-opened.opened.sequence
+                = λ i. held_now (stays i) (c.resume.ensures.root i) (c.resume.ensures.sequence i) in
+                keeps_ok v w n c.in_ok-found.found order.key calls.key left.image power.reads left.counter ruled power.rests h held might run
+                c.reopened_from.result c.in_ok-opened.opened now same
+                (c.in_ok-opened.ensures.opens hon.0 h
+                (mounted_then v w n c.in_ok-found.found order.key calls.key left.image power.reads left.counter ruled power.rests h held might run));
+            counter = subst (λ (s : ℕ). IsSettledAt s n.state) (sym c.resume.ensures.sequence) (take.1.counter settled);
+            refusal = tt;
+          }),
     )
