@@ -9,3 +9,5 @@ pub mod kept;
 mod migrated;
 #[cfg(test)]
 mod refused;
+#[cfg(test)]
+mod reopened;

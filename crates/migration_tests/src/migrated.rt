@@ -14,11 +14,8 @@ use std::test::Fail;
 use store_api::{AppStore, StoreAnswer, Volume};
 use tree_volume::TreeVolume;
 
-/// A volume over a board in memory.
-type OnBoard = TreeVolume<MemBoard>;
-
 /// The number of a loss of power that leaves the bytes which were offered to the first pending block.
-const PICK: u64 = 1;
+pub const PICK: u64 = 1;
 
 /// Whether the object is among those of a region, with its facts and its content.
 fn has_object<S: AppStore>(objects: &mut S) -> Result<bool, StoreAnswer> {
@@ -32,7 +29,7 @@ fn has_object<S: AppStore>(objects: &mut S) -> Result<bool, StoreAnswer> {
 }
 
 /// Whether a region has the object.
-fn is_found(alloc: Global, volume: &mut OnBoard, region: u8) -> bool
+fn is_found<B: Board + Drop>(alloc: Global, volume: &mut TreeVolume<B>, region: u8) -> bool
     requires { region < 16 }
 {
     let mut objects = ObjectDir::of(alloc, volume, region);
@@ -55,7 +52,12 @@ fn is_next<B: Board>(board: &mut B) -> bool {
 }
 
 /// The image was taken over, and the first regions have the object.
-fn is_taken_over(rt: &impl Abort, alloc: Global, mut volume: OnBoard, regions: u8) -> MemBoard {
+pub fn is_taken_over<B: Board + Drop>(
+    rt: &impl Abort,
+    alloc: Global,
+    mut volume: TreeVolume<B>,
+    regions: u8,
+) -> B {
     assert!(rt; volume.sequence() == SEQUENCE + 1);
     for region in 0..16_u8 {
         assert!(rt; is_found(alloc, &mut volume, region) == (region < regions));

@@ -1,10 +1,10 @@
 //! Runs over a board with an image of the first version: its object is found, also where the opening was stopped before.
 
-use super::runs::run_on;
+use super::runs::{has, run_on};
 use board::{Board, BoardFailed};
 use boards::MemBoard;
 use epoch::OpenAnswer;
-use old_image::{OldObject, OldRegions, raise_counter, write_image};
+use old_image::{Forgetful, OldObject, OldRegions, raise_counter, write_image};
 use std::alloc::Global;
 use std::process::Abort;
 use std::test::Fail;
@@ -30,21 +30,34 @@ const FIND: &str = "vault open 1\nvault invoke 1 1 mi:61 vi:1:1 vo\nvault invoke
 /// What is written last then.
 const FOUND: &[u8] = b"vault 3 00000000 4 p1=3:6f6c64\n";
 
+/// What is written last behind a loss of power, for the sixth operation.
+const AGAIN: &[u8] = b"vault 6 00000000 4 p1=3:6f6c64\n";
+
 /// The number of a loss of power that leaves the bytes which were offered to the first pending block.
 const PICK: u64 = 1;
 
-/// Gives the board the image, and this counter.
-fn fill<B: Board>(board: &mut B, regions: &OldRegions, counter: u64) -> Result<(), BoardFailed> {
-    write_image(board, regions, SEQUENCE)?;
+/// Gives the board the image at this sequence, and this counter.
+fn fill<B: Board>(
+    board: &mut B,
+    regions: &OldRegions,
+    sequence: u64,
+    counter: u64,
+) -> Result<(), BoardFailed> {
+    write_image(board, regions, sequence)?;
     raise_counter(board, counter)
 }
 
 /// A board with the image, and with this counter.
 fn board_at(alloc: Global, counter: u64) -> Result<MemBoard, Fail> {
+    board_of(alloc, SEQUENCE, counter)
+}
+
+/// A board with the image at this sequence, and with this counter.
+fn board_of(alloc: Global, sequence: u64, counter: u64) -> Result<MemBoard, Fail> {
     let mut regions = OldRegions::blank(alloc)?;
     regions.put_object(&OBJECT);
     let mut board = MemBoard::blank(alloc, [0; 32], limits::BOARD_BLOCKS)?;
-    let filled = fill(&mut board, &regions, counter);
+    let filled = fill(&mut board, &regions, sequence, counter);
     if let Err(failed) = filled {
         drop(board);
         return Err(failed.into());
@@ -115,5 +128,32 @@ fn an_opening_of_the_first_version_is_stopped_at_each_call(rt: HostRuntime) -> R
         }
     }
     assert!(&rt; false);
+    Ok(())
+}
+
+/// A script whose write is lost on a board that forgets then, and that looks for the object behind a loss of power.
+const LOSE: &str = "vault open 1\nvault invoke 1 1 mi:61 vi:3:1 vo\nboard fuse 0\n\
+vault invoke 1 8 vi:1:0 mi:6e6577\nboard power 1\nvault open 1\nvault invoke 1 1 mi:61 vi:1:1 vo\n\
+vault invoke 1 7 vi:1:3 mo:8\n";
+
+/// A sequence at which the image is found again, and what the power tells then of the change in doubt. The last acknowledged one
+/// is 6, and each image is taken over to the next sequence.
+const FOUND_AGAIN: &[(u64, &str)] = &[
+    (5, "board power absent vault\n"),
+    (6, "board power absent vault\n"),
+    (7, "board power kept vault\n"),
+];
+
+#[test]
+fn a_change_in_doubt_goes_by_the_sequence_that_was_found(rt: HostRuntime) -> Result<(), Fail> {
+    for (sequence, told) in FOUND_AGAIN.iter() {
+        let later = board_of(rt.alloc(), *sequence, *sequence)?;
+        let board = Forgetful::of(board_at(rt.alloc(), SEQUENCE)?, later);
+        let (status, sink, mut board) = run_on(&rt, rt.alloc(), board, LOSE);
+        let counter = board.counter();
+        drop(board);
+        assert!(&rt; status == Status::Done && has(sink.written(), told));
+        assert!(&rt; sink.written().ends_with(AGAIN) && counter == Ok(*sequence + 1));
+    }
     Ok(())
 }

@@ -16,12 +16,12 @@ pub fn blank(alloc: Global) -> Result<MemBoard, Fail> {
 }
 
 /// The status of a run of this script over this board, what it wrote, and the board that it handed back.
-pub fn run_on(
+pub fn run_on<B: Board + Drop>(
     rt: &impl Abort,
     alloc: Global,
-    board: MemBoard,
+    board: B,
     script: &str,
-) -> (Status, MemSink, MemBoard) {
+) -> (Status, MemSink, B) {
     let word = String::from_str(alloc, "run").expect(rt, "a word");
     let text = Bytes::from_slice(alloc, script.as_bytes()).expect(rt, "a script");
     let mut source = MemSource::new(alloc, text, &[]).expect(rt, "a source");

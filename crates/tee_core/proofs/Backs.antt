@@ -1,14 +1,17 @@
 -- A loss of power of all applications, put together of its parts.
 use Rattle.app_api.specs.Behaviours.{Behaviour}
-use Rattle.std.proofs.Common.{◌≡◌, ◌≤◌, ◌+◌, ℕ, Bool, true, false, List, ◌∷◌, Option, None, Some, Ok, inl, sym, subst, ◌∙◌, ap}
+use Rattle.std.proofs.Common.{◌≡◌, ◌≤◌, ◌+◌, not, ℕ, Bool, true, false, List, ◌∷◌, Option, None, Some, Ok, inl, sym, subst, ◌∙◌, ap}
+use Rattle.std.proofs.lemmas.Bool.{false≢true}
 use Rattle.std.specs.Prelude.{IfNone, IfSome, if◌then◌else◌, nat_lt, slice_get}
 use Rattle.alone.specs.declared.power.Power.{Power}
 use Rattle.app_side.specs.Represents.{has_doubt}
 use Rattle.app_side.specs.declared.side.AppSide.{AppSide}
 use Rattle.board.specs.Moment.{Order, View}
 use Rattle.epoch.specs.Forms.{Form, held_of}
+use Rattle.epoch.specs.Finding.{sequence_of}
 use Rattle.epoch.specs.Mounts.{OpensAfterPower, OpensAgain, PowerFirst}
-use Rattle.epoch.specs.Reopening.{sequence_after}
+use Rattle.epoch.specs.Reopening.{reopened_of, sequence_after}
+use Rattle.epoch.specs.declared.header.Header.{Header}
 use Rattle.epoch.specs.declared.taking.Reopened.{Reopened}
 use Rattle.store_api.specs.Volumes.{Held, RestsAt, VolumeKeeper}
 use Rattle.tee_core.specs.Powers.{IsTold, after_power, kept_by, kept_one, restarts_from, told_of}
@@ -70,14 +73,14 @@ module _ {V A : Type 0} (K : VolumeKeeper V)
       (told_is K rests since behaviour sides world old new whole owner none doubt found)
 
 -- a loss of power of which nothing is said of what is read behind it
-pub unread_power : {pick : ℕ} {kept : Bool} {Stays : ℕ → Type 0} (old new : View) → PowerFirst pick kept Stays old new → PowerFirst pick false Stays old new
+abbrev pub unread_power : {pick : ℕ} {kept : Bool} {Stays : ℕ → Type 0} (old new : View) → PowerFirst pick kept Stays old new → PowerFirst pick false Stays old new
 unread_power old new first = record {
   between = first.between;
   ordered = first.ordered;
   time = first.time;
   powered = first.powered;
   alone = first.alone;
-  reads = λ so. absurd (let e : false ≡ true = so in cc);
+  reads = λ so. absurd (false≢true so);
   behind = first.behind;
 }
 
@@ -88,3 +91,19 @@ power_reads {pick} old new first shown order last =
     let made : Order = record { number = pick; before = old.state; after = first.between.state } in
     let is : made ≡ order = let e : made ∷ old.ordered ≡ order ∷ old.ordered = sym first.ordered ∙ last in cc in
     first.reads shown ∙ ap (λ (o : Order). o.after.reads) is
+
+-- the sequence that was found is that of the header
+pub found_sequence : (version : ℕ) (told : Reopened) (header : Option Header) → told ≡ reopened_of version header → told.sequence ≡ sequence_of header
+found_sequence version told None is = ap (λ (r : Reopened). r.sequence) is
+found_sequence version told (Some header) is = ap (λ (r : Reopened). r.sequence) is
+
+-- what is told by it
+pub tells_found : (version : ℕ) (told : Reopened) (header : Option Header) (owner first : Option ℕ) (acknowledged sequence : ℕ) (power : Power) → told ≡ reopened_of version header
+    → owner ≡ first → acknowledged ≡ sequence → power ≡ told_of owner (nat_lt acknowledged told.sequence) → power ≡ told_of first (nat_lt sequence (sequence_of header))
+tells_found version told header owner first acknowledged sequence power is one two tells =
+    let at = found_sequence version told header is in
+    tells ∙ (λ i. told_of (one i) (nat_lt (two i) (at i)))
+
+-- nothing was taken over, and the answer shows it
+pub shown_kept : (version : ℕ) (told : Reopened) (header : Option Header) → told ≡ reopened_of version header → (reopened_of version header).rewritten ≡ false → not told.rewritten ≡ true
+shown_kept version told header is kept = ap (λ (r : Reopened). not r.rewritten) is ∙ ap not kept

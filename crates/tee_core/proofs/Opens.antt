@@ -1,14 +1,14 @@
 -- The world over a board that was opened.
 use Rattle.std.proofs.Common.{◌≡◌, ◌<◌, ◌≤◌, ◌+◌, ℕ, zero, suc, true, false, List, [], ◌∷◌, Option, None, Some, Result, Ok, Err}
 use Rattle.std.proofs.Common.{drop, is_some, length, refl, sym, subst, ◌∙◌, ap, inl, ⊎_elim, arith}
-use Rattle.std.specs.Prelude.{◌⊎◌, IfErr, slice_get}
+use Rattle.std.specs.Prelude.{IfErr, slice_get}
 use Rattle.app_api.specs.declared.host.Host.{Host}
 use Rattle.alone.specs.Machine.{Machine, start}
 use Rattle.app_side.specs.declared.side.AppSide.{AppSide}
 use Rattle.board.specs.Moment.{IsLeft, Moment, CrashImage, View, WasLeft, left_since, moment}
 use Rattle.board.specs.Runs.{Rests}
 use Rattle.board.specs.Steps.{CallRun}
-use Rattle.epoch.specs.Forms.{Form, held_in, held_of}
+use Rattle.epoch.specs.Forms.{Form, held_in}
 use Rattle.epoch.specs.Mounts.{IsOpenedTo, LeavesOpening, LeftByOpening}
 use Rattle.epoch.proofs.MountLemmas.{opening_keeps}
 use Rattle.epoch.specs.Opening.{opening_of}

@@ -26,7 +26,6 @@ use Rattle.object_dir.specs.declared.kept_dir.KeptDir.{KeptDir}
 use Rattle.region_plan.specs.declared.directory.Directory.{Directory}
 use Rattle.store_api.specs.Keeping.{Contents, Keeper, LeavesJust, Remains, Rest, Status}
 use Rattle.region_plan.specs.Regions.{breaks}
-use Rattle.store_api.specs.declared.answer.Mismatch.{Mismatch}
 use Rattle.store_api.specs.declared.answer.StoreAnswer.{StoreAnswer}
 use Rattle.store_api.specs.declared.answer.StoreAnswer.TheVariants as stores
 use Rattle.store_api.specs.Stores.{Store}

@@ -1,10 +1,11 @@
 -- Which machines and worlds the values stand for, over a volume.
 use Rattle.std.specs.Prelude.{ℕ, ◌≡◌, ◌<◌, ◌⊎◌, ◌+◌, ◌==◌, Bool, true, false, List, [], ◌∷◌, Option, None, Some, Ok, is_some, length, slice_get}
+use Rattle.std.specs.List.{position}
 use Rattle.store_api.specs.Volumes.{Held, VolumeKeeper}
 use Rattle.store_api.specs.declared.volume.Volume.{Ghosts}
 use Rattle.object_dir.specs.Regions.{region_in}
 use Rattle.region_plan.specs.declared.directory.Directory.{Directory}
-use Rattle.app_side.specs.Represents.{event_of as turn_of}
+use Rattle.app_side.specs.Represents.{event_of as turn_of, has_doubt}
 use Rattle.app_side.specs.declared.side.AppSide.{AppSide}
 use Rattle.alone.specs.declared.turn.TurnKind.{TurnKind}
 use Rattle.alone.specs.Machine.{Machine}
@@ -92,6 +93,10 @@ KeepsMachines {B} {V} {A} {G} old new = (world : World A) → AreSides old.sides
 -- how often the power was lost
 abbrev pub boots_of : {B V A : Type 0} {G : Ghosts V} → TeeOver B V A G → ℕ
 boots_of tee = tee.boots
+
+-- the application whose change is in doubt, the first one if there are more
+abbrev pub doubt_of : {B V A : Type 0} {G : Ghosts V} → TeeOver B V A G → Option ℕ
+doubt_of {B} {V} {A} {G} tee = position (λ (side : AppSide A). has_doubt side) tee.sides.items
 
 -- how many applications there are
 abbrev pub app_count : {B V A : Type 0} {G : Ghosts V} → TeeOver B V A G → ℕ

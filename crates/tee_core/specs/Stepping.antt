@@ -1,17 +1,22 @@
 -- What an event of an application leaves of the value, and what an order of the board does: of each world that it represents, of the
 -- board, and of the other applications.
 use Rattle.app_api.specs.Behaviours.{Behaviour}
-use Rattle.std.specs.Prelude.{ℕ, ◌≡◌, ◌≢◌, ◌∷◌, true, Some, slice_get}
+use Rattle.std.specs.Prelude.{ℕ, ◌≡◌, ◌≢◌, ◌∷◌, false, true, Option, Some, nat_lt, slice_get}
 use Rattle.alone.specs.declared.power.Power.{Power}
 use Rattle.alone.specs.declared.turn.TurnKind.{TurnKind}
 use Rattle.alone.specs.Machine.{Machine}
 use Rattle.alone.specs.Step.{is_enabled}
 use Rattle.board.specs.Moment.{Order, View}
-use Rattle.epoch.specs.Forms.{Form}
+use Rattle.epoch.specs.Finding.{sequence_of}
+use Rattle.epoch.specs.Forms.{Form, Root}
+use Rattle.epoch.specs.Mounts.{TakesUp}
+use Rattle.epoch.specs.Reopening.{reopened_of}
+use Rattle.epoch.specs.declared.header.Header.{Header}
+use Rattle.epoch.specs.declared.mounts.TheConstants.{BLANK}
 use Rattle.store_api.specs.declared.volume.Volume.{Ghosts}
 use Rattle.tee_core.specs.Moments.{IsSound, IsWithin, KeepsCounts, OrderLeavesStores}
-use Rattle.tee_core.specs.Powers.{IsTold, after_power}
-use Rattle.tee_core.specs.Represents.{app_count, boots_of, turns_made, volume_of, Represents}
+use Rattle.tee_core.specs.Powers.{IsTold, after_power, told_of}
+use Rattle.tee_core.specs.Represents.{app_count, boots_of, doubt_of, turns_made, volume_of, Represents}
 use Rattle.tee_core.specs.Turning.{MeetsDamage}
 use Rattle.tee_core.specs.World.{AppEvent, World, world_step}
 use Rattle.tee_core.specs.declared.tee.TeeOver.{TeeOver}
@@ -56,3 +61,14 @@ pub record Restarts {B V A : Type 0} {G : Ghosts V} (behaviour : Behaviour A) (f
   pub left : OrderLeavesStores form before after (after_power behaviour start tells)
   pub unwritten : after.writes ≡ before.writes
   pub reads : (order : Order) → after.ordered ≡ order ∷ before.ordered → after.state.reads ≡ order.after.reads
+
+-- the power came back over a board on which this header counts, whatever its image: the volume takes up the header; of the change in
+-- doubt this was told, which is kept exactly where the sequence of the header is greater than the last acknowledged one; where nothing was
+-- taken over no block was written, and each reads as the order left it
+pub record ComesBack {B V A : Type 0} {G : Ghosts V} (form : Form) (root : Root) (before after : View) (old new : TeeOver B V A G) (tells : Power)
+    (header : Option Header) : Type 0 where
+  pub taken : TakesUp form header BLANK (G.keeper.held (volume_of new)).sequence root
+  pub told : tells ≡ told_of (doubt_of old) (nat_lt (G.keeper.held (volume_of old)).sequence (sequence_of header))
+  pub unwritten : (reopened_of form.version header).rewritten ≡ false → after.writes ≡ before.writes
+  pub reads : (reopened_of form.version header).rewritten ≡ false
+      → (order : Order) → after.ordered ≡ order ∷ before.ordered → after.state.reads ≡ order.after.reads

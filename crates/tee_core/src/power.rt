@@ -12,15 +12,15 @@ ghost use Rattle.board.specs.Runs.{Rests};
 ghost use Rattle.board.specs.Fuse.{fuse_after_set};
 ghost use Rattle.board.specs.Steps.{Passes, SameBlocks, Unchanged};
 ghost use Rattle.epoch.specs.Forms.{held_in};
-ghost use Rattle.epoch.specs.Mounts.{HandsBack, HandsBackByRule, IsAdmitted, IsFound, IsKeptFromOpening, IsRefusal, IsRefusalOver, LeavesOpening, LosesPower, LosesPowerByRule, OpensHonestly, OrderRun, TakesUp};
+ghost use Rattle.epoch.specs.Mounts.{HandsBack, HandsBackByRule, IsAdmitted, IsFound, IsKeptFromOpening, IsRefusal, IsRefusalOver, LeavesOpening, LosesPower, LosesPowerByRule, OpensHonestly, OrderRun};
 ghost use Rattle.epoch.specs.Opening.{is_no_failure, no_failure};
 ghost use Rattle.epoch.specs.Past.{KeepsPast};
-ghost use Rattle.epoch.specs.declared.mounts.TheConstants.{BLANK, FORMATTED};
+ghost use Rattle.epoch.specs.declared.mounts.TheConstants.{FORMATTED};
 ghost use Rattle.epoch.specs.declared.answer.OpenAnswer.TheVariants as answers;
 ghost use Rattle.tee_core.specs.Moments.{IsWithin};
 ghost use Rattle.tee_core.specs.Opening.{IsOpenedOver, IsSoundFor};
 ghost use Rattle.tee_core.specs.Powers.{all_lost, kept_by, kept_one, shows_unwritten, told_of};
-ghost use Rattle.tee_core.specs.Stepping.{HasBegun, KeepsTurns, Restarts};
+ghost use Rattle.tee_core.specs.Stepping.{ComesBack, HasBegun, KeepsTurns, Restarts};
 ghost use Rattle.tee_core.specs.Represents.{boots_of, volume_of, Represents};
 ghost use Rattle.tee_core.specs.Sides.{AreBooted, AreLost, AreSides};
 ghost use Rattle.tee_core.specs.World.{World, world_of};
@@ -196,9 +196,9 @@ impl<B: Board, V: BoardVolume<B>, A: Application> TeeOver<B, V, A> {
         ensures honest { B.honest (V.board_of (volume_of self.old))
             → B.honest (V.board_of (volume_of self.new))
             × LosesPowerByRule V.form (λ k. (3 < k) × V.untouched k) pick (shows_unwritten result)
-            result (λ told header. TakesUp V.form header BLANK
-            (V.keeper.held (volume_of self.new)).sequence (V.root (volume_of self.new)))
-            (λ told. (V.keeper.held (volume_of self.new)).sequence)
+            result (ComesBack V.form (V.root (volume_of self.new))
+            (B.view (V.board_of (volume_of self.old))) (B.view (V.board_of (volume_of self.new)))
+            self.old self.new) (V.keeper.held (volume_of self.new))
             (B.view (V.board_of (volume_of self.old))) (B.view (V.board_of (volume_of self.new))) }
         // every machine restarts, over what the order itself left to a crash
         ensures restarted { IfOk result (λ told. (world : World A) → Represents self.old world

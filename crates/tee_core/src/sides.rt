@@ -108,6 +108,7 @@ fn is_kept(kept: Option<u8>, index: usize) -> bool
 /// The application whose change is in doubt, if there is one.
 pub(crate) fn owner_of_doubt<A: Application>(sides: &[AppSide<A>]) -> Option<u8>
     requires { length sides.now ≤ MAX_HOSTS }
+    ensures first { result ≡ position (λ side. has_doubt side) sides.now }
     ensures none { IfNone result (IsNoneInDoubt sides.now) }
     ensures some { IfSome result (λ owner. (side : Side A) × (slice_get sides.now owner ≡ Some side)
         × (has_doubt side ≡ true)) }

@@ -21,7 +21,6 @@ ghost use Rattle.seal.specs.Keys.{AreKeysOf};
 ghost use Rattle.tree_paths.specs.declared.places.TheConstants.{FIRST_BLOCK};
 ghost use Rattle.tree_paths.specs.Form.{form_root};
 ghost use Rattle.old_volume.specs.Versions.{volume_form};
-ghost use Rattle.tree_volume.specs.Keeping.{IsOpen, held_now};
 ghost use Rattle.tree_volume.specs.Soundness.{damage_formed, text_formed};
 ghost use Rattle.tree_volume.specs.Opens.{IsBlankNode, Opens};
 ghost use Rattle.tree_volume.specs.Taking.{Takes, TakesByForm, TakesHonestly};
@@ -176,9 +175,9 @@ fn take_header<B: Board>(
         });
     }
     match migrate(alloc, board, keys, &header.root, header.sequence) {
-        Ok(root) => Ok(Opened {
-            root,
-            sequence: root.sequence,
+        Ok(taken) => Ok(Opened {
+            root: taken,
+            sequence: taken.sequence,
         }),
         Err(why) => Err(refusal_from(why)),
     }

@@ -40,7 +40,7 @@ returns-in-Ok-clause-told g c tells =
     record {
       refused = tt;
       taken = refusal_old c.args.header c.requires.accepted (not_two c.args.header.version c.if-header-eq-TREE_VERSION.false) v.key v.state.reads
-          ∙ taken_told look c.args.header.root {A = TreeEntry} (Ok c.in-Ok.root) answer.walk answer.rules;
+          ∙ taken_told look c.args.header.root {A = TreeEntry} (Ok c.in-Ok.taken) answer.walk answer.rules;
     }
 
 pub returns-in-Err-clause-told : goal.returns-in-Err-clause-told

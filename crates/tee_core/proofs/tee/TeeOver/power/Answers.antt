@@ -1,12 +1,13 @@
-use Rattle.std.proofs.Common.{◌≡◌, Bool, true, not, List, Some, Err, refl, sym, ap, subst, arith}
+use Rattle.std.proofs.Common.{◌≡◌, ◌∙◌, Bool, true, not, List, Option, Some, refl, sym, ap, subst, arith}
+use Rattle.std.specs.List.{position}
 use Rattle.std.specs.Prelude.{IfNone, IfSome, slice_get}
 use Rattle.app_side.specs.Represents.{has_doubt}
 use Rattle.app_side.specs.declared.side.AppSide.{AppSide as Side}
-use Rattle.epoch.specs.Finding.{IsSettledAt}
 use Rattle.epoch.specs.Mounts.{IsReopened, TakesUp}
 use Rattle.epoch.specs.Opening.{found_header}
+use Rattle.epoch.specs.declared.header.Header.{Header}
 use Rattle.tee_core.specs.Sides.{AreBooted, AreLost, IsNoneInDoubt}
-use Rattle.tee_core.proofs.Backs.{order_left, power_reads, power_stands, power_told, unread_power}
+use Rattle.tee_core.proofs.Backs.{order_left, power_reads, power_stands, power_told, shown_kept, tells_found, unread_power}
 use Rattle.tee_core.proofs.Counts.{mapped_length}
 use Rattle.tee_core.proofs.DirectoryLemmas.{held_none}
 use Rattle.tee_core.proofs.Powers.{always_sound, stand_refused, within_power}
@@ -66,24 +67,32 @@ pub returns-in-Ok-clause-honest : goal.returns-in-Ok-clause-honest
 returns-in-Ok-clause-honest g c = λ honest.
     let is = c.in-Ok.ensures.honest honest in
     let then = g.B.Board.view (g.V.BoardVolume.board_of c.power.new.self) in
-    let left = is.1.exact in
-    let admitted = left.3 in
-    let takes : IsReopened g.V.BoardVolume.form c.in-Ok.found (g.V.BoardVolume.root c.power.new.self) (found_header admitted.0) = admitted.2 in (
+    let form = g.V.BoardVolume.form in
+    let admitted = is.1.exact.1 in
+    let header : Option Header = found_header admitted.0 in
+    let takes : IsReopened form c.in-Ok.found (g.V.BoardVolume.root c.power.new.self) header = admitted.2 in
+    let first : c.owner_of_doubt-owner.result ≡ position (λ (s : Side g.row.A.Denot). has_doubt s) c.args.self.now.sides.items
+    = c.owner_of_doubt-owner.ensures.first ∙ ap (λ (ss : List (Side g.row.A.Denot)). position (λ (s : Side g.row.A.Denot). has_doubt s) ss) c.as_slice.ensures.value in (
       is.0,
       record {
         begins = unread_power _ _ is.1.begins;
         past = is.1.past;
         exact = (
-          left.0,
-          left.1,
           tt,
           (
             admitted.0,
             admitted.1,
-            subst (λ n. TakesUp g.V.BoardVolume.form (found_header admitted.0) 0 n (g.V.BoardVolume.root c.power.new.self)) (sym c.in-Ok.ensures.back.sequence) takes.1,
+            record {
+              taken = subst (λ n. TakesUp form header 0 n (g.V.BoardVolume.root c.power.new.self)) (sym c.in-Ok.ensures.back.sequence) takes.1;
+              told = tells_found form.version c.in-Ok.found header c.owner_of_doubt-owner.result _ c.sequence-acknowledged.result _ c.power_of.result takes.0 first
+                  c.sequence-acknowledged.ensures c.power_of.ensures;
+              unwritten = λ kept. c.in-Ok.ensures.writes (shown_kept form.version c.in-Ok.found header takes.0 kept);
+              reads = λ kept. power_reads _ _ is.1.begins (shown_kept form.version c.in-Ok.found header takes.0 kept);
+            },
           ),
         );
-        counter = subst (λ n. IsSettledAt n then.state) (sym c.in-Ok.ensures.back.sequence) is.1.counter;
+        holds = λ h held. let keeps = is.1.holds h held in record { made = keeps.made; rests = keeps.rests; leaves = keeps.leaves };
+        counter = is.1.counter;
         refusal = tt;
       },
     )
@@ -121,13 +130,13 @@ returns-in-Err-clause-calls g c = c.in-Err.ensures.calls
 
 pub returns-in-Err-clause-honest : goal.returns-in-Err-clause-honest
 returns-in-Err-clause-honest g c = λ honest.
-    let is = c.in-Err.ensures.honest honest in
-    let left = is.1.exact in (
+    let is = c.in-Err.ensures.honest honest in (
       is.0,
       record {
         begins = is.1.begins;
         past = is.1.past;
-        exact = (left.0, left.1, left.2, tt);
+        exact = (is.1.exact.0, tt);
+        holds = λ h held. let keeps = is.1.holds h held in record { made = tt; rests = tt; leaves = keeps.leaves };
         counter = tt;
         refusal = is.1.refusal;
       },
