@@ -153,7 +153,7 @@ fn a_change_in_doubt_goes_by_the_sequence_that_was_found(rt: HostRuntime) -> Res
         let counter = board.counter();
         drop(board);
         assert!(&rt; status == Status::Done && has(sink.written(), told));
-        assert!(&rt; sink.written().ends_with(AGAIN) && counter == Ok(*sequence + 1));
+        assert!(&rt; sink.written().ends_with(AGAIN) && counter == Ok(sequence.saturating_add(1)));
     }
     Ok(())
 }
