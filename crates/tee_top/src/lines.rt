@@ -94,10 +94,14 @@ fn run_event<B: Board, V: BoardVolume<B>, A: Application, W: Sink>(
         drop(event);
         return Err(Stop::NoMemory);
     }
-    let happened = tee.event(event)?;
-    let written = write_happened(alloc, name_of(names, app), &happened, sink);
+    // the answer is read where it stands, since its table of replies is large
+    let answer = tee.event(event);
+    let Ok(happened) = &answer else {
+        return Err(Stop::NoMemory);
+    };
+    let written = write_happened(alloc, name_of(names, app), happened, sink);
     let made = (happened.op, happened.instance);
-    drop(happened);
+    drop(answer);
     written?;
     Ok(made)
 }
