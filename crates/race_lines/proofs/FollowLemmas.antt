@@ -1,24 +1,23 @@
 -- How the entries of a client grow with a log, and what its lines have of them then.
 use Rattle.app_api.specs.Behaviours.{Behaviour}
-use Rattle.std.proofs.Common.{◌≡◌, ◌≤◌, ◌<◌, ◌+◌, ◌++◌, ◌==◌, ◌&&◌, ◌∙◌, ◌⊎◌, ℕ, zero, suc, Bool, true, false, not, List, [], ◌∷◌, Option, None, Some, cond, if◌then◌else◌}
-use Rattle.std.proofs.Common.{length, filter, find, is_some, refl, sym, subst, ap, inl, inr, ⊎_elim, arith, append-nil, append_assoc, length-append, eq-eqb}
+use Rattle.std.proofs.Common.{◌≡◌, ◌++◌, ◌==◌, ◌&&◌, ◌∙◌, ◌⊎◌, ℕ, Bool, true, false, not, List, [], ◌∷◌, Option, None, Some, cond, if◌then◌else◌}
+use Rattle.std.proofs.Common.{find, is_some, refl, sym, subst, ap, inl, inr, ⊎_elim, append-nil, append_assoc, eq-eqb}
 use Rattle.std.proofs.lemmas.List.Elements.{filter-append}
 use Rattle.std.proofs.lemmas.List.Folds.{find-append}
 use Rattle.std.specs.List.{AllByRecursion}
 use mathlib.Core.List.{IsPrefix}
 use Rattle.turn_cell.proofs.Segments.{prefix_refl, prefix_trans}
-use Rattle.app_api.specs.declared.call.Call.{Call}
 use Rattle.alone.specs.declared.reply.Reply.{Reply}
 use Rattle.alone.specs.declared.turn.TurnKind.{TurnKind}
 use Rattle.alone.specs.declared.turn.TurnKind.TheVariants as kinds
 use Rattle.alone.specs.Machine.{Machine}
 use Rattle.alone.specs.Logs.{Adds, Logged, entries_by, entry, replies_in}
-use Rattle.alone.specs.Step.{Event, Called, Cancelled, Lost}
+use Rattle.alone.specs.Step.{Event, Lost}
 use Rattle.app_side.specs.Represents.{event_of}
 use Rattle.shared_parts.specs.HostedApps.{reply_in}
-use Rattle.shared_parts.specs.StorageTurns.{MakesTurn, MakesTurnOver}
-use Rattle.race_lines.specs.Following.{AreMade, AreTurns, Follows, FollowsCut, Grows, IsAnswered, IsCalled, IsCut, IsMade, IsOne, LossesStand, Placed}
-use Rattle.race_lines.specs.Following.{instance_at, is_found_loss, is_loss_by, is_own, is_replied, is_turn, is_turn_of, late_for, log_at, number_at, placed_by, turn_comes}
+use Rattle.shared_parts.specs.StorageTurns.{MakesTurn}
+use Rattle.race_lines.specs.Following.{AreMade, AreTurns, Follows, FollowsCut, Grows, IsCut, IsMade, LossesStand, Placed}
+use Rattle.race_lines.specs.Following.{is_found_loss, is_own, is_replied, is_turn, is_turn_of, log_at, number_at, placed_by, turn_comes}
 use Rattle.race_lines.specs.Wishes.{Wish, Calls, Turns, Cancels}
 
 -- ---- lists

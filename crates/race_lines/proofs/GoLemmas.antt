@@ -1,46 +1,34 @@
 -- What the answers of the runtime's calls leave of a pass.
 use Rattle.app_api.specs.Behaviours.{Behaviour}
-use Rattle.std.proofs.Common.{◌≡◌, ◌≤◌, ◌<◌, ◌+◌, ◌++◌, ◌∙◌, ◌⊎◌, ℕ, zero, suc, Bool, true, false, List, [], ◌∷◌, Option, None, Some, Result, Ok, Err, OnErr, cond}
-use Rattle.std.proofs.Common.{length, filter, refl, sym, subst, ap, inl, inr, ⊎_elim, arith, append-nil, length-append}
+use Rattle.std.proofs.Common.{◌≡◌, ◌≤◌, ◌+◌, ◌++◌, ◌∙◌, ℕ, Bool, true, false, List, [], ◌∷◌, Option, None, Some, Result, Ok, Err, IfErr, OnErr, cond, leb, ltb, ◌||◌}
+use Rattle.std.proofs.Common.{length, refl, sym, subst, ap, inl, inr, ⊎_elim, arith, append-nil}
+use Rattle.std.proofs.lemmas.Bool.{lt-ltb, ltb-true}
 use Rattle.std.proofs.lemmas.List.Elements.{filter-append}
 use mathlib.Core.List.{IsPrefix}
 use Rattle.turn_cell.proofs.Segments.{prefix_refl, prefix_trans}
+use Rattle.tee_base.specs.declared.limits.TheConstants.{MAX_LOG_BYTES, MAX_LOG_ENTRIES}
 use Rattle.store_api.specs.Volumes.{VolumeKeeper}
 use Rattle.app_api.specs.declared.call.Call.{Call}
 use Rattle.alone.specs.declared.turn.TurnKind.{TurnKind}
-use Rattle.alone.specs.Logs.{Logged, entries_by, entry, is_full}
+use Rattle.alone.specs.Logs.{Logged, bytes_in, entries_by, entry, is_full}
 use Rattle.alone.specs.Machine.{Machine}
-use Rattle.alone.specs.Step.{Event, Called, Cancelled}
+use Rattle.alone.specs.Step.{Event, Called}
 use Rattle.app_side.specs.Represents.{event_of}
 use Rattle.shared_parts.specs.HostedApps.{Begins, HostedEvent, Made, Origin}
 use Rattle.shared_parts.specs.StorageParts.{IsMarked}
 use Rattle.shared_parts.specs.declared.recorded.Posted.{Posted}
 use Rattle.shared_parts.specs.declared.recorded.SharedAnswer.{SharedAnswer}
 use Rattle.shared_parts.specs.declared.recorded.SharedAnswer.TheVariants as answers
-use Rattle.shared_tee.specs.Passes.{
-  FindsNothing,
-  GoesOnBy,
-  IsPassOf,
-  IsRefused,
-  IsTurnRefused,
-  Makes,
-  MakesNothing,
-  MakesOneTurn,
-  MissesOwnCell,
-  OthersWentOn,
-  PassView,
-  Places,
-  Posts,
-  log_of,
-  origin_in,
-}
+use Rattle.shared_tee.specs.Passes.{FindsNothing, GoesOnBy, IsPassOf, IsRefused, IsTurnRefused, Makes, MakesOneTurn, MissesOwnCell, OthersWentOn, PassView, Places, Posts, log_of, origin_in}
 use Rattle.race_lines.proofs.FollowLemmas.{event_is_turn, grows_by_event, grows_by_others, grows_then, turn_placed, turns_more, unreplied_before}
-use Rattle.race_lines.specs.Following.{AreTurns, Grows, IsAnswered, IsCalled, IsCut, IsMade, IsOne, Placed}
+use Rattle.race_lines.specs.Following.{Grows, Placed}
 use Rattle.race_lines.specs.Following.{instance_at, is_found_loss, is_replied, is_turn_of, late_for, number_at}
-use Rattle.race_lines.specs.Wishes.{Wish, Calls, Turns, Cancels}
 use Rattle.race_lines.specs.declared.worker.Stopped.{Stopped}
 use Rattle.race_lines.specs.declared.worker.Stopped.TheVariants as stops
-use Rattle.race_lines.specs.Workers.{Awaits, GoesBy, IsFullFor, IsStopFor, IsStopOf, KnowsMore, MakesLine, MakesOnce, MayTurn, NamesCell, PostsOnce, StopsAt, TurnsOnce, WhereMarked}
+use Rattle.race_lines.specs.Workers.{Awaits, GoesBy, IsFullFor, IsStopFor, IsStopOf, KnowsMore, MakesOnce, MayTurn, NamesCell, PostsOnce, TurnsOnce, WhereMarked}
+
+pub err_is : {X Y : Type 0} (P : Y → Type 0) (r : Result X Y) (e : Y) → r ≡ Err e → P e → IfErr r P
+err_is P r e is here = subst (λ x. IfErr x P) (sym is) here
 
 pub on_err : {X Y : Type 0} (P : Type 0) (r : Result X Y) → P → OnErr r P
 on_err P (Ok x) is = tt
@@ -49,6 +37,21 @@ on_err P (Err e) is = is
 one_late_at_most : (late : Bool) (one : Placed) → length (cond late (one ∷ []) []) ≤ 1
 one_late_at_most true one = omega arith
 one_late_at_most false one = omega arith
+
+-- ---- full logs
+
+or_more : (a b c : Bool) → (b ≡ true → c ≡ true) → (a || b) ≡ true → (a || c) ≡ true
+or_more true b c f is = refl
+or_more false b c f is = f is
+
+-- a log that has no place for an entry has none for one that brings bytes
+pub fuller : (log : List Logged) (bytes : ℕ) → is_full log 0 ≡ true → is_full log bytes ≡ true
+fuller log bytes full = or_more (leb MAX_LOG_ENTRIES (length log)) (ltb MAX_LOG_BYTES (bytes_in log + 0)) (ltb MAX_LOG_BYTES (bytes_in log + bytes))
+    (λ over. let lt = ltb-true MAX_LOG_BYTES (bytes_in log + 0) over in lt-ltb MAX_LOG_BYTES (bytes_in log + bytes) (omega (arith, lt))) full
+
+pub fuller_for : (why : Stopped) (bytes : ℕ) (log : List Logged) → IsFullFor why 0 log → IsFullFor why bytes log
+fuller_for (stops.LogFull full) bytes log is = fuller log bytes is
+fuller_for stops.NoMemory bytes log is = tt
 
 module _ {V A : Type 0} where
   -- ---- what a pass knows
@@ -120,6 +123,15 @@ module _ {V A : Type 0} where
   refused_names answers.LogFull bytes p q k r = tt
   refused_names answers.NoMemory bytes p q k r = tt
 
+  -- a call stops a worker only where the log is full for what it brings
+  pub refused_stop : (why : SharedAnswer) (bytes : ℕ) (stopped : Stopped) (p q r s : PassView V A) → GoesBy [] p q → KnowsMore q r → IsRefused why bytes q r → IsStopOf why r.app stopped → s ≡ r
+      → IsStopFor stopped p.app × IsFullFor stopped bytes (log_of s)
+  refused_stop why bytes (stops.LogFull full) p q r s g k refused is same = (
+    is.1 ∙ (k.app ∙ g.knows.app),
+    subst (λ (x : PassView V A). is_full (log_of x) bytes ≡ true) (sym same) (subst (λ w. IsRefused w bytes q r) is.0 refused).0,
+  )
+  refused_stop why bytes stops.NoMemory p q r s g k refused is same = (tt, tt)
+
   pub unfound_goes : (why : SharedAnswer) (p q : PassView V A) → KnowsMore p q → FindsNothing why p q → GoesBy [] p q
   unfound_goes (answers.Busy busy) p q k r = missed_goes busy.word p q k r.2
   unfound_goes answers.LogFull p q k r = absurd r
@@ -141,7 +153,7 @@ module _ {V A : Type 0} where
   module _ (K : VolumeKeeper V) (behaviour : Behaviour A) where
     -- a turn stops a worker only where the log is full
     pub unturned_stop : (why : SharedAnswer) (i : ℕ) (stopped : Stopped) (p q r : PassView V A) → KnowsMore p q → IsTurnRefused K behaviour why i p q → IsStopOf why q.app stopped → r ≡ q
-        → IsStopFor stopped p.app × IsFullFor stopped (log_of r)
+        → IsStopFor stopped p.app × IsFullFor stopped 0 (log_of r)
     unturned_stop why i (stops.LogFull full) p q r k refused is same = (
       is.1 ∙ k.app,
       subst (λ (x : PassView V A). is_full (log_of x) 0 ≡ true) (sym same) (subst (λ w. IsTurnRefused K behaviour w i p q) is.0 refused).0,

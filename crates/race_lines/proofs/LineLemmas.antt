@@ -1,49 +1,17 @@
 -- The entries of one line, as its calls leave them.
 use Rattle.app_api.specs.Behaviours.{Behaviour}
-use Rattle.std.proofs.Common.{
-  ◌≡◌,
-  ◌≤◌,
-  ◌+◌,
-  ◌++◌,
-  ◌∙◌,
-  ◌⊎◌,
-  ℕ,
-  Bool,
-  true,
-  false,
-  List,
-  [],
-  ◌∷◌,
-  Option,
-  None,
-  Some,
-  Result,
-  Ok,
-  Err,
-  IfErr,
-  OnOk,
-  length,
-  refl,
-  sym,
-  subst,
-  ap,
-  inl,
-  inr,
-  arith,
-  length-append,
-}
-use Rattle.std.specs.Prelude.{IfSome}
+use Rattle.std.proofs.Common.{◌≡◌, ◌≤◌, ◌+◌, ◌++◌, ◌∙◌, ℕ, true, false, List, [], ◌∷◌, Result, Ok, Err, IfErr, OnOk, length, refl, subst, ap, inl, inr, arith, length-append}
 use Rattle.store_api.specs.Volumes.{VolumeKeeper}
 use Rattle.app_api.specs.declared.call.Call.{Call}
+use Rattle.alone.specs.Logs.{bytes_of_call}
 use Rattle.alone.specs.Step.{Cancelled}
 use Rattle.shared_parts.specs.declared.recorded.Posted.{Posted}
 use Rattle.shared_tee.specs.Passes.{PassView, log_of}
 use Rattle.race_lines.proofs.FollowLemmas.{turns_more}
-use Rattle.race_lines.proofs.GoLemmas.{goes_on, goes_refl, goes_then}
+use Rattle.race_lines.proofs.GoLemmas.{fuller_for, goes_on, goes_refl, goes_then}
 use Rattle.race_lines.specs.declared.worker.Stopped.{Stopped}
-use Rattle.race_lines.specs.declared.worker.Stopped.TheVariants as stops
 use Rattle.race_lines.specs.Following.{AreTurns, IsCalled, Placed, is_replied, late_for}
-use Rattle.race_lines.specs.Wishes.{Wish, Calls, Turns, Cancels}
+use Rattle.race_lines.specs.Wishes.{Wish, Calls, Turns, Cancels, bytes_of_wish}
 use Rattle.race_lines.specs.Workers.{Awaits, GoesBy, IsFullFor, IsStopFor, MakesLine, MakesOnce, PostsOnce, StopsAt, TurnsOnce, WhereMarked}
 
 pub on_ok_map : {X Y : Type 0} {P Q : Type 0} (r : Result X Y) → (P → Q) → OnOk r P → OnOk r Q
@@ -76,8 +44,9 @@ module _ {V A : Type 0} where
   module _ (K : VolumeKeeper V) (behaviour : Behaviour A) where
     -- ---- a line that wasn't begun
 
-    pub line_unbegun : (why : Stopped) (wish : Wish) (p q : PassView V A) → GoesBy [] p q → IsStopFor why p.app → StopsAt K behaviour why wish p q
-    line_unbegun why wish p q g why_is = record { made = []; goes = g; why_is = why_is; stopped = inl refl }
+    pub line_unbegun : (why : Stopped) (wish : Wish) (p q : PassView V A) → GoesBy [] p q → IsStopFor why p.app → IsFullFor why (bytes_of_wish wish) (log_of q)
+        → StopsAt K behaviour why wish p q
+    line_unbegun why wish p q g why_is full = record { made = []; goes = g; why_is = why_is; full = full; stopped = inl refl }
 
     -- ---- calls
 
@@ -112,11 +81,12 @@ module _ {V A : Type 0} where
         };
       }
 
-      pub line_unanswered : (why : Stopped) → IsStopFor why q.app → IsFullFor why (log_of r) → StopsAt K behaviour why (Calls false call) p r
+      pub line_unanswered : (why : Stopped) → IsStopFor why q.app → IsFullFor why 0 (log_of r) → StopsAt K behaviour why (Calls false call) p r
       line_unanswered why why_is full = record {
         made = x.one ∷ a.turns;
         goes = call_goes;
         why_is = subst (λ app. IsStopFor why app) x.goes.knows.app why_is;
+        full = fuller_for why (bytes_of_call call) (log_of r) full;
         stopped = inr (full, call_made);
       }
 
@@ -125,12 +95,13 @@ module _ {V A : Type 0} where
     pub line_turned : (i count : ℕ) (p q : PassView V A) → MadeTurns i count p q → MakesLine K behaviour (Turns i count) p q
     line_turned i count p q m = record { made = m.turns; goes = m.goes; is_made = λ origin is marked. (m.are_turns, m.count_is) }
 
-    pub line_turned_less : (i made count : ℕ) (p q r : PassView V A) (why : Stopped) → made ≤ count → MadeTurns i made p q → GoesBy [] q r → IsStopFor why q.app → IsFullFor why (log_of r)
+    pub line_turned_less : (i made count : ℕ) (p q r : PassView V A) (why : Stopped) → made ≤ count → MadeTurns i made p q → GoesBy [] q r → IsStopFor why q.app → IsFullFor why 0 (log_of r)
         → StopsAt K behaviour why (Turns i count) p r
     line_turned_less i made count p q r why le m g why_is full = record {
       made = m.turns;
       goes = goes_on p q r m.turns m.goes g;
       why_is = subst (λ app. IsStopFor why app) m.goes.knows.app why_is;
+      full = full;
       stopped = inr (full, λ origin is marked. (m.are_turns, (let n = m.count_is in omega (arith, n, le))));
     }
 

@@ -1,52 +1,13 @@
 -- All passes of a worker, line by line.
 use Rattle.app_api.specs.Behaviours.{Behaviour}
-use Rattle.std.proofs.Common.{
-  ◌≡◌,
-  ◌≢◌,
-  ◌≤◌,
-  ◌<◌,
-  ◌+◌,
-  ◌++◌,
-  ◌==◌,
-  ◌&&◌,
-  ◌∙◌,
-  ◌⊎◌,
-  ℕ,
-  Bool,
-  true,
-  false,
-  List,
-  [],
-  ◌∷◌,
-  Option,
-  None,
-  Some,
-  Result,
-  Ok,
-  Err,
-  IfErr,
-  cond,
-  length,
-  set,
-  get_or,
-  take,
-  drop,
-  refl,
-  sym,
-  subst,
-  ap,
-  inl,
-  inr,
-  ⊎_elim,
-  arith,
-  append-nil,
-  append_assoc,
-}
+use Rattle.std.proofs.Common.{◌≡◌, ◌≢◌, ◌<◌, ◌+◌, ◌++◌, ◌==◌, ◌&&◌, ◌∙◌, ◌⊎◌, ℕ, Bool, true, false, List, [], ◌∷◌, Option}
+use Rattle.std.proofs.Common.{None, Some, cond, length, set, get_or, take, drop, refl, sym, subst, ap, inl, inr, ⊎_elim, arith, append-nil, append_assoc}
 use Rattle.std.proofs.Common.{zero, suc, length-set, take-append-drop, eqb-true, eq-eqb, ne_eqb, option_to_list}
 use Rattle.std.proofs.lemmas.List.{take_more}
 use Rattle.std.proofs.lemmas.Option.{slice_get-get_or}
 use Rattle.std.specs.Prelude.{IfSome, slice_get}
 use Rattle.store_api.specs.Volumes.{VolumeKeeper}
+use Rattle.alone.specs.Logs.{is_full}
 use Rattle.alone.specs.Machine.{Machine}
 use Rattle.shared_tee.specs.Passes.{IsPassOf, PassView, Places, log_of}
 use Rattle.script.specs.declared.line.Line.{Line}
@@ -55,9 +16,10 @@ use Rattle.race_lines.proofs.FollowLemmas.{follows_cut, follows_more, follows_on
 use Rattle.race_lines.proofs.GoLemmas.{knows_refl, knows_then, marked_later}
 use Rattle.race_lines.specs.declared.worker.Stopped.{Stopped}
 use Rattle.race_lines.specs.declared.worker.Stopped.TheVariants as stops
-use Rattle.race_lines.specs.Following.{Follows, FollowsCut, FollowsFirst, FollowsPart, Grows, IsCut, IsMade, Placed}
+use Rattle.race_lines.specs.Following.{Follows, FollowsCut, Grows, IsCut, IsMade, Placed}
 use Rattle.race_lines.specs.Wishes.{NameApps, Wish, Calls, Turns, Cancels, is_line_of, wish_of, wishes_of}
-use Rattle.race_lines.specs.Workers.{AllKnowMore, AllServe, AllServeTill, FollowsTill, GoesBy, IsFullFor, KnowsMore, KnowsMoreAt, MakesLine, Serves, ServesTill, StopsAt, WhereMarked}
+use Rattle.race_lines.specs.Workers.{AllKnowMore, AllServe, AllServeTill, FindsFull, FindsItFull, FollowsTill, IsFullFor, KnowsMore}
+use Rattle.race_lines.specs.Workers.{MakesLine, Serves, ServesTill, StopsAt}
 
 -- ---- lists
 
@@ -145,7 +107,7 @@ module _ {V A : Type 0} (K : VolumeKeeper V) (behaviour : Behaviour A) (places :
       not_begun (stops.LogFull full) m f = record { first = wishes; rest = wish ∷ rest; wishes_are = refl; follows = inl f }
       not_begun stops.NoMemory m f = record { first = wishes; rest = wish ∷ rest; wishes_are = refl; follows = inl f }
 
-      cut_short : (why : Stopped) (m : Machine A) → IsFullFor why (log_of q) → FollowsCut behaviour m client (log_of q) (wishes ++ wish ∷ []) → FollowsTill behaviour why m client
+      cut_short : (why : Stopped) (m : Machine A) → IsFullFor why 0 (log_of q) → FollowsCut behaviour m client (log_of q) (wishes ++ wish ∷ []) → FollowsTill behaviour why m client
           (log_of q) (wishes ++ wish ∷ rest)
       cut_short (stops.LogFull full) m is_full f =
           record { first = wishes ++ wish ∷ []; rest = rest; wishes_are = sym (append_assoc wishes (wish ∷ []) rest); follows = inr (is_full, f) }
@@ -164,6 +126,29 @@ module _ {V A : Type 0} (K : VolumeKeeper V) (behaviour : Behaviour A) (places :
             (subst (λ (ps : List Placed). Grows client (log_of p) (log_of q) ps) none grows)))
             (λ amid. cut_short why origin.machine amid.0 (follows_cut behaviour origin.machine client (log_of p) (log_of q) wishes wish at.made (s.follows origin is marked) grows
             (subst (λ c. IsCut behaviour origin.machine c wish at.made) s.client_is (amid.1 origin is marked))))
+            at.stopped);
+      }
+
+      -- the log of this application stopped the worker
+      finds_full : (full : ℕ) → StopsAt K behaviour (stops.LogFull full) wish p q → FindsFull K behaviour client (wishes ++ wish ∷ rest) q
+      finds_full full at = record {
+        made = wishes;
+        next = wish;
+        rest = rest;
+        wishes_are = refl;
+        full = at.full;
+        follows = marked_later K places p q
+            (λ m. Follows behaviour m client (log_of q) wishes ⊎ ((is_full (log_of q) 0 ≡ true) × FollowsCut behaviour m client (log_of q) (wishes ++ wish ∷ []))) s.of at.goes.knows
+            (λ origin is marked.
+            let grows : Grows client (log_of p) (log_of q) at.made = subst (λ c. Grows c (log_of p) (log_of q) at.made) s.client_is at.goes.grows in
+            ⊎_elim
+            (λ none. inl (follows_on behaviour origin.machine client (log_of p) (log_of q) wishes (s.follows origin is marked)
+            (subst (λ (ps : List Placed). Grows client (log_of p) (log_of q) ps) none grows)))
+            (λ amid. inr (
+              amid.0,
+              follows_cut behaviour origin.machine client (log_of p) (log_of q) wishes wish at.made (s.follows origin is marked) grows
+                  (subst (λ c. IsCut behaviour origin.machine c wish at.made) s.client_is (amid.1 origin is marked)),
+            ))
             at.stopped);
       }
 
@@ -236,6 +221,17 @@ module _ {V A : Type 0} (K : VolumeKeeper V) (behaviour : Behaviour A) (places :
           (serves_so_far why other (wishes_of other client front) (wishes_of other client rest) r (all other r (sym (get_other passes app other q apart) ∙ there))))
           (same_or_not other app)
 
+      pub finds_it_full : (why : Stopped) (rest : List Line) → IfSome (wish_of line) (λ wish. StopsAt K behaviour why wish p q)
+          → FindsItFull K behaviour why client (front ++ line ∷ rest) (set passes app q)
+      finds_it_full (stops.LogFull full) rest at =
+          let stopped = if_some (λ wish. StopsAt K behaviour (stops.LogFull full) wish p q) (wish_of line) some.0 some.1 at in
+          let is : app ≡ full = sym (stopped.why_is ∙ (all app p here).app_is) in
+          let found = subst (λ ws. FindsFull K behaviour client ws q) (sym (wishes_now rest))
+          (finds_full app (wishes_of app client front) some.0 p q (all app p here) of (wishes_of app client rest) full stopped) in
+          subst (λ n. (x : PassView V A) × (slice_get (set passes app q) n ≡ Some x) × FindsFull K behaviour client (wishes_of n client (front ++ line ∷ rest)) x) is
+          (q, get_set passes app p q here, found)
+      finds_it_full stops.NoMemory rest at = tt
+
 -- ---- what the passes know
 
 module _ {V A : Type 0} where
@@ -266,9 +262,6 @@ pub named_at : (count client : ℕ) (xs : List Line) (k : ℕ) (d : Line) (app :
 named_at count client [] k d app lt named own = absurd (omega (arith, lt))
 named_at count client (x ∷ xs) zero d app lt named own = named.0 app client own
 named_at count client (x ∷ xs) (suc k) d app lt named own = named_at count client xs k d app (omega (arith, lt)) named.1 own
-
-pub err_is : {X Y : Type 0} (P : Y → Type 0) (r : Result X Y) (e : Y) → r ≡ Err e → P e → IfErr r P
-err_is P r e is here = subst (λ x. IfErr x P) (sym is) here
 
 module _ {V A : Type 0} (K : VolumeKeeper V) (behaviour : Behaviour A) (places : Places) (client : ℕ) (script : List Line) (k : ℕ) (d : Line) (lt : k < length script)
     (first passes : List (PassView V A)) (named : NameApps (length first) script) (known : AllKnowMore first passes) (all : AllServe K behaviour places client (take k script) passes) where
@@ -311,6 +304,10 @@ module _ {V A : Type 0} (K : VolumeKeeper V) (behaviour : Behaviour A) (places :
         pub stop_next : (why : Stopped) → IfSome (wish_of line) (λ wish. StopsAt K behaviour why wish pass q) → AllServeTill K behaviour why places client script (set passes app q)
         stop_next why at = subst (λ (ls : List Line). AllServeTill K behaviour why places client ls (set passes app q)) (sym whole_now)
             (all_serve_till K behaviour places client (take k script) line passes all app own pass q pass_there of why (drop (k + 1) script) at)
+
+        pub full_next : (why : Stopped) → IfSome (wish_of line) (λ wish. StopsAt K behaviour why wish pass q) → FindsItFull K behaviour why client script (set passes app q)
+        full_next why at = subst (λ (ls : List Line). FindsItFull K behaviour why client ls (set passes app q)) (sym whole_now)
+            (finds_it_full K behaviour places client (take k script) line passes all app own pass q pass_there of why (drop (k + 1) script) at)
 
         pub known_stopped : (why : Stopped) → IfSome (wish_of line) (λ wish. StopsAt K behaviour why wish pass q) → AllKnowMore first (set passes app q)
         known_stopped why at =

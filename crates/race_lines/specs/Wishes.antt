@@ -2,6 +2,7 @@
 use Rattle.std.specs.Prelude.{ℕ, ◌==◌, ◌≡◌, ◌<◌, Bool, true, false, ◌&&◌, List, [], ◌∷◌, ◌++◌, Option, None, Some, if◌then◌else◌, option_to_list}
 use Rattle.std.specs.List.{AllByRecursion}
 use Rattle.app_api.specs.declared.call.Call.{Call}
+use Rattle.alone.specs.Logs.{bytes_of_call}
 use Rattle.script.specs.declared.line.Line.{Line}
 use Rattle.script.specs.declared.line.Line.TheVariants as lines
 
@@ -10,6 +11,12 @@ pub data Wish : Type 0 where
   Calls : (post : Bool) (call : Call) → Wish
   Turns : (instance count : ℕ) → Wish
   Cancels : (op : ℕ) → Wish
+
+-- the parameter bytes that it brings to the log
+abbrev pub bytes_of_wish : Wish → ℕ
+bytes_of_wish (Calls post call) = bytes_of_call call
+bytes_of_wish (Turns instance count) = 0
+bytes_of_wish (Cancels op) = 0
 
 -- what a line asks of its application; a line about the board asks nothing of any
 abbrev pub wish_of : Line → Option Wish

@@ -1,6 +1,6 @@
 -- What a worker of a race does with its passes.
 use Rattle.app_api.specs.Behaviours.{Behaviour}
-use Rattle.std.specs.Prelude.{ℕ, ◌≡◌, ◌≤◌, ◌⊎◌, Bool, true, false, List, [], ◌∷◌, Some, length, slice_get}
+use Rattle.std.specs.Prelude.{ℕ, ◌≡◌, ◌≤◌, ◌⊎◌, Bool, true, false, List, [], ◌∷◌, ◌++◌, Some, length, slice_get}
 use mathlib.Core.List.{IsPrefix}
 use Rattle.app_api.specs.declared.call.Call.{Call}
 use Rattle.store_api.specs.Volumes.{VolumeKeeper}
@@ -17,8 +17,8 @@ use Rattle.shared_tee.specs.declared.names.TheConstants.{STORAGE_CELL}
 use Rattle.script.specs.declared.line.Line.{Line}
 use Rattle.race_lines.specs.declared.worker.Stopped.{Stopped}
 use Rattle.race_lines.specs.declared.worker.Stopped.TheVariants as stops
-use Rattle.race_lines.specs.Following.{AreTurns, Follows, FollowsFirst, FollowsPart, Grows, IsCut, IsMade, Placed, instance_at, is_turn_of, late_for, number_at}
-use Rattle.race_lines.specs.Wishes.{Wish, wishes_of}
+use Rattle.race_lines.specs.Following.{AreTurns, Follows, FollowsCut, FollowsFirst, FollowsPart, Grows, IsCut, IsMade, Placed, instance_at, is_turn_of, late_for, number_at}
+use Rattle.race_lines.specs.Wishes.{Wish, bytes_of_wish, wishes_of}
 
 module _ {V A : Type 0} where
   -- this holds of the machine of the pass's origin, where the origin's mark is set
@@ -78,10 +78,10 @@ abbrev pub IsStopFor : Stopped → ℕ → Type 0
 IsStopFor (stops.LogFull full) app = full ≡ app
 IsStopFor stops.NoMemory app = Unit {0}
 
--- where the log stops a worker amid a line, it has no place for an entry
-abbrev pub IsFullFor : Stopped → List Logged → Type 0
-IsFullFor (stops.LogFull full) log = is_full log 0 ≡ true
-IsFullFor stops.NoMemory log = Unit {0}
+-- where the log stops a worker, it has no place for what brings so many bytes
+abbrev pub IsFullFor : Stopped → ℕ → List Logged → Type 0
+IsFullFor (stops.LogFull full) bytes log = is_full log bytes ≡ true
+IsFullFor stops.NoMemory bytes log = Unit {0}
 
 -- behaviour has the application's two stated functions
 module _ {A : Type 0} (behaviour : Behaviour A) where
@@ -111,7 +111,8 @@ module _ {V A : Type 0} (K : VolumeKeeper V) (behaviour : Behaviour A) where
     pub made : List Placed
     pub goes : GoesBy made old new
     pub why_is : IsStopFor why old.app
-    pub stopped : (made ≡ []) ⊎ (IsFullFor why (log_of new) × WhereMarked K old (λ m. IsCut behaviour m old.client wish made))
+    pub full : IsFullFor why (bytes_of_wish wish) (log_of new)
+    pub stopped : (made ≡ []) ⊎ (IsFullFor why 0 (log_of new) × WhereMarked K old (λ m. IsCut behaviour m old.client wish made))
 
   -- the pass is the runtime's, of this application and client, and its entries are those of the wishes
   pub record Serves (places : Places) (app client : ℕ) (wishes : List Wish) (p : PassView V A) : Type 0 where
@@ -134,6 +135,22 @@ module _ {V A : Type 0} (K : VolumeKeeper V) (behaviour : Behaviour A) where
   -- so does each of the passes, of its application and for what the lines ask of that
   abbrev pub AllServeTill : Stopped → Places → ℕ → List Line → List (PassView V A) → Type 0
   AllServeTill why places client lines passes = (app : ℕ) (p : PassView V A) → slice_get passes app ≡ Some p → ServesTill why places app client (wishes_of app client lines) p
+
+  -- one of the wishes found the log full: those before it are made, and of itself there is nothing, or what a full log cut short
+  pub record FindsFull (client : ℕ) (wishes : List Wish) (p : PassView V A) : Type 0 where
+    pub made : List Wish
+    pub next : Wish
+    pub rest : List Wish
+    pub wishes_are : wishes ≡ made ++ next ∷ rest
+    pub full : is_full (log_of p) (bytes_of_wish next) ≡ true
+    pub follows : WhereMarked K p (λ m. Follows behaviour m client (log_of p) made
+        ⊎ ((is_full (log_of p) 0 ≡ true) × FollowsCut behaviour m client (log_of p) (made ++ next ∷ [])))
+
+  -- where a full log stopped the worker, it is that of the application named: a line for it found it full
+  abbrev pub FindsItFull : Stopped → ℕ → List Line → List (PassView V A) → Type 0
+  FindsItFull (stops.LogFull full) client lines passes =
+      (p : PassView V A) × (slice_get passes full ≡ Some p) × FindsFull client (wishes_of full client lines) p
+  FindsItFull stops.NoMemory client lines passes = Unit {0}
 
 module _ {V A : Type 0} where
   -- at this place stands a pass that knows no less than this one

@@ -95,7 +95,8 @@ pub(crate) fn post<R: Wait, V: Volume, A: Application>(
     ensures ok { IfOk result (λ posted.
         PostsOnce V.keeper A.behaviour call.now posted pass.old pass.new) }
     ensures same { OnErr result (GoesBy [] pass.old pass.new) }
-    ensures err { IfErr result (λ why. IsStopFor why pass.old.app) }
+    ensures err { IfErr result (λ why. IsStopFor why pass.old.app
+        × IsFullFor why (bytes_of_call call.now) (log_of pass.new)) }
 {
     for _ in rt.forever() {
         expect_call(rt, pass);
@@ -122,7 +123,8 @@ pub(crate) fn cancel<R: Wait, V: Volume, A: Application>(
     ensures of { IsPassOf shared.now pass.new }
     ensures ok { OnOk result (MakesOnce (Cancelled op) pass.old pass.new) }
     ensures same { OnErr result (GoesBy [] pass.old pass.new) }
-    ensures err { IfErr result (λ why. IsStopFor why pass.old.app) }
+    ensures err { IfErr result (λ why.
+        IsStopFor why pass.old.app × IsFullFor why 0 (log_of pass.new)) }
 {
     for _ in rt.forever() {
         expect_call(rt, pass);
@@ -177,7 +179,7 @@ pub(crate) fn try_turn<R: Wait, V: Volume, A: Application>(
     ensures ok { IfOk result (λ made. MayTurn made instance pass.old pass.new) }
     ensures same { OnErr result (GoesBy [] pass.old pass.new) }
     ensures err { IfErr result (λ why.
-        IsStopFor why pass.old.app × IsFullFor why (log_of pass.new)) }
+        IsStopFor why pass.old.app × IsFullFor why 0 (log_of pass.new)) }
 {
     expect_call(rt, pass);
     match shared.try_turn(pass, instance) {
@@ -205,7 +207,7 @@ pub(crate) fn turn<R: Wait, V: Volume, A: Application>(
     ensures ok { OnOk result (TurnsOnce instance pass.old pass.new) }
     ensures same { OnErr result (GoesBy [] pass.old pass.new) }
     ensures err { IfErr result (λ why.
-        IsStopFor why pass.old.app × IsFullFor why (log_of pass.new)) }
+        IsStopFor why pass.old.app × IsFullFor why 0 (log_of pass.new)) }
 {
     for _ in rt.forever() {
         match try_turn(rt, shared, pass, instance) {

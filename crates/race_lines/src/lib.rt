@@ -2,9 +2,7 @@
 #![tactic(auto)]
 
 mod calls;
-mod gate;
 mod lines;
 mod worker;
 
-pub use gate::{Gate, OpenGate};
 pub use worker::{Stopped, run_lines};

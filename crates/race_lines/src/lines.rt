@@ -32,7 +32,7 @@ fn turn_until_answered<R: Wait, V: Volume, A: Application>(
     ensures turns { Awaits op instance pass.old pass.new }
     ensures ok { OnOk result (is_replied op (log_of pass.new) ≡ true) }
     ensures err { IfErr result (λ why.
-        IsStopFor why pass.old.app × IsFullFor why (log_of pass.new)) }
+        IsStopFor why pass.old.app × IsFullFor why 0 (log_of pass.new)) }
 {
     for _ in rt.forever() {
         if is_answered(rt, shared, pass, op)? {

@@ -3,13 +3,12 @@
 ghost use Rattle.std.specs.Prelude.{◌≡◌, ◌<◌, ◌^◌, ℕ, IfErr, IfNone, IfSome, OnOk, [], false, length, true};
 ghost use Rattle.shared_tee.specs.Passes.{IsPassOf};
 ghost use Rattle.race_lines.specs.Wishes.{NameApps, is_line_of};
-ghost use Rattle.race_lines.specs.Workers.{AllKnowMore, AllServe, AllServeTill};
+ghost use Rattle.race_lines.specs.Workers.{AllKnowMore, AllServe, AllServeTill, FindsItFull};
 
-use crate::gate::Gate;
 use crate::lines::make_line;
 use app_api::Application;
 use script::Line;
-use shared_tee::{Pass, SharedTeeOver};
+use shared_tee::{Gate, Pass, SharedTeeOver};
 use std::sync::Wait;
 use store_api::Volume;
 use thiserror::Error;
@@ -73,6 +72,8 @@ pub fn run_lines<R: Wait, V: Volume, A: Application, G: Gate>(
         (AllServe V.keeper A.behaviour shared.now client lines.now passes.new) }
     ensures err { IfErr result (λ why.
         AllServeTill V.keeper A.behaviour why shared.now client lines.now passes.new) }
+    ensures full { IfErr result (λ why.
+        FindsItFull V.keeper A.behaviour why client lines.now passes.new) }
 {
     let mut number = 0;
     for line in lines {

@@ -99,6 +99,7 @@ module _ {V A : Type 0} (K : VolumeKeeper V) (behaviour : Behaviour A) (volume :
         few = let n = seen_length in omega (arith, n, few);
         lost = works;
         since = record { faults = omega arith; foundation = refl };
+        below = λ honest. honest;
         kept = λ marked. stored_begun (subst (λ n. IsMarked K (Opened n volume)) seen_length marked);
         held = λ marked. none;
       }

@@ -20,7 +20,7 @@ use Rattle.alone.specs.Step.{step}
 use Rattle.app_side.specs.Represents.{Represents, event_of, is_lost}
 use Rattle.app_side.specs.declared.side.AppSide.{AppSide}
 use Rattle.tee_core.proofs.SideLemmas.{get_there, map_set, set_there}
-use Rattle.tee_core.proofs.Turning.{counts_kept}
+use Rattle.tee_core.proofs.Turning.{below_kept, counts_kept}
 use Rattle.tee_core.specs.Directories.{AreHeld, kept_at}
 use Rattle.tee_core.specs.Turning.{TurnsOver}
 use Rattle.shared_parts.proofs.StepLemmas.{MakesStep, born_few, born_spare, entry_made}
@@ -293,6 +293,7 @@ module _ {V A : Type 0} (K : VolumeKeeper V)
           faults = let first = made.was.since.faults in let later = counts.faults in omega (arith, first, later);
           foundation = counts.foundation ∙ made.was.since.foundation;
         };
+        below = λ honest. below_kept K behaviour app i kind made.turn.replies before after taken kept old new t (made.was.below honest);
         kept = λ marked. let has = made.part marked in stored_then marked has.machine has.stands has.part;
         held = λ marked. let has = made.part marked in dirs_then marked has.machine has.stands has.part;
       })
@@ -393,5 +394,6 @@ storage_kept {V} K apps volume opened loss dirs parts was = record {
   trail = ap (λ n. (let e : StorageEntry V = Opened n opened in e) ∷ losses_in loss) (sym was.each);
   lost = was.lost;
   since = was.since;
+  below = was.below;
   kept = λ marked. was.kept (subst (λ n. IsMarked K (Opened n opened)) was.each marked);
 }

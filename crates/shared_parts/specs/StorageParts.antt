@@ -100,6 +100,8 @@ module _ {V : Type 0} (K : VolumeKeeper V) where
     pub lost : AreLosses losses (K.condition opened) (K.condition s.volume)
     -- the count of faults isn't below the one at the opening, and the volume stands where it stood, with no order made
     pub since : KeepsFoundation (K.condition opened) (K.condition s.volume)
+    -- what the volume stands on is honest, if it was at the opening
+    pub below : K.honest_below opened → K.honest_below s.volume
     -- where the mark is set the volume keeps the parts
     pub kept : IsMarked (Opened (length s.parts) opened) → IsStoredFor A s.parts s.volume
 
@@ -155,5 +157,6 @@ module _ {V A : Type 0} where
     pub few : apps ≤ MAX_HOSTS
     pub lost : AreLosses (losses_in loss) (K.condition opened) (K.condition volume)
     pub since : KeepsFoundation (K.condition opened) (K.condition volume)
+    pub below : K.honest_below opened → K.honest_below volume
     pub kept : IsMarked K (Opened apps opened) → IsStoredFor K A parts volume
     pub held : IsMarked K (Opened apps opened) → AreHeld (K.held volume).leaves dirs

@@ -1,5 +1,4 @@
-use Rattle.std.proofs.Common.{◌≡◌}
-use Rattle.race_lines.proofs.GoLemmas.{goes_others, goes_refl, knows_by}
+use Rattle.race_lines.proofs.GoLemmas.{goes_others, knows_by}
 use Rattle.race_lines.proofs.calls.pause.Goals as goal
 
 pub returns-in-Busy-clause-goes : goal.returns-in-Busy-clause-goes

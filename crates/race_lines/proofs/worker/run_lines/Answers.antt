@@ -1,10 +1,11 @@
 use Rattle.std.specs.Prelude.{IfSome}
 use lib.ListN.{get_or}
-use Rattle.std.proofs.Common.{true, false, ◌≡◌, ◌+◌, ◌≤◌, ◌<◌, Err, arith, length, rules, subst, take, take_all}
+use Rattle.std.proofs.Common.{true, false, ◌≡◌, Err, arith, rules, subst, take_all}
 use Rattle.script.specs.declared.line.Line.{Line}
 use Rattle.race_lines.specs.Wishes.{is_line_of, wish_of}
-use Rattle.race_lines.specs.Workers.{AllServe, AllServeTill, MakesLine, StopsAt}
-use Rattle.race_lines.proofs.WorkerLemmas.{err_is, known_next, known_stopped, pass_of, serve_next, serve_other, stop_next}
+use Rattle.race_lines.specs.Workers.{AllServe, MakesLine, StopsAt}
+use Rattle.race_lines.proofs.GoLemmas.{err_is}
+use Rattle.race_lines.proofs.WorkerLemmas.{full_next, known_next, known_stopped, pass_of, serve_next, serve_other, stop_next}
 use Rattle.race_lines.proofs.worker.run_lines.Goals as goal
 
 pub loop-line-preserved-in_default : goal.loop-line-preserved-in_default
@@ -45,6 +46,18 @@ returns-in_err-make_line-clause-err g c =
     let is : c.from_residual.result ≡ Err c.in_err-make_line.field-0.0 = search rules in
     err_is _ c.from_residual.result c.in_err-make_line.field-0.0 is
     (stop_next g.V.Volume.keeper g.A.Application.behaviour c.args.shared.now c.args.client c.args.lines.now c.loop-line.line-index c.line-item.result (omega arith) c.args.passes.now c.loop-line.passes
+    c.requires.named was.known was.serve c.in-Some.app
+    (subst (λ (l : Line). is_line_of c.in-Some.app c.args.client l ≡ true) c.line-item.is c.in-Some.ensures.some) c.index-passes-app.result c.make_line.new.pass c.make_line.ensures.of
+    c.in_err-make_line.field-0.0
+    (subst (λ (l : Line). IfSome (wish_of l) (λ wish. StopsAt g.V.Volume.keeper g.A.Application.behaviour c.in_err-make_line.field-0.0 wish
+    (get_or c.loop-line.passes c.in-Some.app c.index-passes-app.result) c.make_line.new.pass)) c.line-item.is c.in_err-make_line.ensures.err))
+
+pub returns-in_err-make_line-clause-full : goal.returns-in_err-make_line-clause-full
+returns-in_err-make_line-clause-full g c =
+    let was = c.loop-line.invariant in
+    let is : c.from_residual.result ≡ Err c.in_err-make_line.field-0.0 = search rules in
+    err_is _ c.from_residual.result c.in_err-make_line.field-0.0 is
+    (full_next g.V.Volume.keeper g.A.Application.behaviour c.args.shared.now c.args.client c.args.lines.now c.loop-line.line-index c.line-item.result (omega arith) c.args.passes.now c.loop-line.passes
     c.requires.named was.known was.serve c.in-Some.app
     (subst (λ (l : Line). is_line_of c.in-Some.app c.args.client l ≡ true) c.line-item.is c.in-Some.ensures.some) c.index-passes-app.result c.make_line.new.pass c.make_line.ensures.of
     c.in_err-make_line.field-0.0

@@ -1,0 +1,10 @@
+//! Applications that threads share, over a board in memory.
+#![tactic(auto)]
+
+#[cfg(test)]
+mod calls;
+#[cfg(test)]
+mod folded;
+pub mod pair;
+#[cfg(test)]
+mod shared;
