@@ -1,0 +1,4 @@
+pub mod Dealing
+pub mod Outcomes
+pub mod Racing
+pub mod Workers
