@@ -11,6 +11,7 @@ pub mod Dropped
 pub mod Each
 pub mod Ended
 pub mod Gone
+pub mod HighLemmas
 pub mod Kept
 pub mod KeptByCalls
 pub mod Lists

@@ -9,7 +9,8 @@ use Rattle.std.proofs.lemmas.List.{take-append-drop, take-append-le, drop-append
 use Rattle.alone.specs.declared.log_entry.LogEntry.{LogEntry}
 use Rattle.alone.specs.declared.reply.Reply.{Reply}
 use Rattle.tee_base.specs.declared.limits.TheConstants.{MAX_LOG_BYTES}
-use Rattle.alone.specs.KeptLogs.{IsKept, event_by, log_with_replies, reply_count}
+use Rattle.alone.specs.KeptLogs.{IsKept, event_by, highs_from, last_high, log_with_replies, reply_count}
+use Rattle.alone.proofs.HighLemmas.{highs_behind}
 use Rattle.alone.specs.Logs.{IsLegal, Logged, bytes_in, bytes_of_event, entry, machine_by, replies_in}
 use Rattle.alone.specs.Machine.{Machine}
 use Rattle.alone.specs.Step.{Event, is_enabled, step}
@@ -68,9 +69,10 @@ replies_push (x ∷ log) e =
     omega (arith, more, long, short)
 
 -- what is kept, with one entry more and its replies
-pub kept_push : (es : List LogEntry) (rs more : List Reply) (e : LogEntry) (bytes added : ℕ) → IsKept es rs bytes → e.replies ≡ length more
-    → added ≡ bytes_of_event (event_by e.client e.event) → bytes + added ≤ MAX_LOG_BYTES → IsKept (es ++ e ∷ []) (rs ++ more) (bytes + added)
-kept_push es rs more e bytes added kept is own few =
+pub kept_push : (es : List LogEntry) (rs more : List Reply) (highs : List ℕ) (e : LogEntry) (bytes added : ℕ) → IsKept es rs highs bytes → e.replies ≡ length more
+    → added ≡ bytes_of_event (event_by e.client e.event) → bytes + added ≤ MAX_LOG_BYTES
+    → IsKept (es ++ e ∷ []) (rs ++ more) (highs ++ highs_from (last_high 0 highs) more) (bytes + added)
+kept_push es rs more highs e bytes added kept is own few =
     let last : Logged = entry e.client (event_by e.client e.event) more in
     let counted : reply_count es ≡ length rs = kept.counted in
     let summed : bytes ≡ bytes_in (log_with_replies es rs) = kept.summed in
@@ -78,6 +80,9 @@ kept_push es rs more e bytes added kept is own few =
     let sum = bytes_push (log_with_replies es rs) last in
     record {
       counted = let count = count_push es e in let all = length-append rs more in omega (arith, count, all, counted, is);
+      numbered =
+          let was : highs ≡ highs_from 0 rs = kept.numbered in
+          ap (λ (hs : List ℕ). hs ++ highs_from (last_high 0 hs) more) was ∙ sym (highs_behind 0 rs more);
       summed = ap (λ n. n + added) summed ∙ ap (λ n. bytes_in (log_with_replies es rs) + n) own ∙ sym (longer ∙ sum);
       few = few;
     }

@@ -172,11 +172,12 @@ impl Replies {
         let _count = self.len();
     }
 
-    /// Moves the replies to the end of a list that has room for them. It takes no memory.
-    pub fn append_to(mut self, into: &mut Vec<Reply>)
-        requires { vec_len into.old + length self ≤ vec_capacity into.old }
-        ensures items { into.new.items ≡ into.old.items ++ self }
+    /// Moves the replies to the end of a list that has room for them. None is left. It takes no memory.
+    pub fn move_to(&mut self, into: &mut Vec<Reply>)
+        requires { vec_len into.old + length self.old ≤ vec_capacity into.old }
+        ensures items { into.new.items ≡ into.old.items ++ self.old }
         ensures capacity { vec_capacity into.new ≡ vec_capacity into.old }
+        ensures none { self.new ≡ [] }
     {
         move_all(&mut self.items, into);
     }
@@ -188,11 +189,12 @@ impl Replies {
     }
 }
 
-/// Moves all of them, in order.
+/// Moves all of them, in order, so that none is left.
 fn move_all(items: &mut ArrayVec<Reply, 24>, into: &mut Vec<Reply>)
     requires { vec_len into.old + length items.old.items ≤ vec_capacity into.old }
     ensures items { into.new.items ≡ into.old.items ++ items.old.items }
     ensures capacity { vec_capacity into.new ≡ vec_capacity into.old }
+    ensures none { items.new.items ≡ [] }
 {
     for place in 0..items.len() {
         let first = items.remove(0);

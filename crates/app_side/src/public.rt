@@ -181,10 +181,31 @@ impl<A: Application> AppSide<A> {
             → StorageStays m (step A.behaviour m (event_of result.kind instance)).machine }
         ensures lost { is_lost self.new ≡ is_lost self.old }
     {
+        let mut replies = Replies::none();
+        let kind = self.turn_without_store_into(instance, &mut replies);
+        Turned { kind, replies }
+    }
+
+    /// The same, with its replies in a table that the caller keeps, so that many turns need one.
+    pub fn turn_without_store_into(&mut self, instance: u8, replies: &mut Replies) -> TurnKind
+        requires few { turns_of self.old < MAX_NUMBER }
+        requires storeless { wants_store self.old instance ≡ false }
+        requires none { replies.old ≡ [] }
+        ensures kind { IsStoreless result }
+        ensures stands { (m : Machine A) → Represents self.old m
+            → is_enabled m (event_of result instance) ≡ true }
+        ensures step { (m : Machine A) → Represents self.old m
+            → Represents self.new (step A.behaviour m (event_of result instance)).machine }
+        ensures told { (m : Machine A) → Represents self.old m
+            → replies.new ≡ (step A.behaviour m (event_of result instance)).replies }
+        ensures storage { (m : Machine A) → Represents self.old m
+            → StorageStays m (step A.behaviour m (event_of result instance)).machine }
+        ensures lost { is_lost self.new ≡ is_lost self.old }
+    {
         let mut store = NoStore::new(self.lost);
-        let turned = self.turn(instance, &mut store);
+        let kind = self.turn_into(instance, &mut store, replies);
         store.bounds();
-        turned
+        kind
     }
 
     /// A turn of the instance for which there is no memory: the instance is torn down. It takes no memory itself.

@@ -1,7 +1,7 @@
 //! What is kept of a running application.
 
 ghost use Rattle.std.specs.Prelude.{◌≡◌};
-ghost use Rattle.app_side.specs.Represents.{called_of, replies_at_once};
+ghost use Rattle.app_side.specs.Represents.{called_of};
 
 use alone::{Instance, Outputs, Replies, Reply, TurnKind};
 use app_api::{Application, Host};
@@ -54,32 +54,25 @@ pub(crate) struct Taken {
 }
 
 impl Taken {
-    /// Its reply, where it has one.
-    #[inline(never)]
-    fn replies(&self) -> Replies
-        ensures { result ≡ replies_at_once self.now.op self.now.refusal }
-    {
-        match self.refusal {
-            None => Replies::none(),
-            Some(Refusal { code, origin }) => Replies::one(Reply {
-                op: self.op,
-                code,
-                origin,
-                outputs: Outputs::nothing(),
-            }),
-        }
-    }
-
     /// What became of it.
     #[inline(never)]
     pub(crate) fn called(self) -> Called
         ensures { result ≡ called_of self }
     {
-        Called {
+        let mut called = Called {
             op: self.op,
             instance: self.instance,
-            replies: self.replies(),
+            replies: Replies::none(),
+        };
+        if let Some(Refusal { code, origin }) = self.refusal {
+            called.replies.push(Reply {
+                op: self.op,
+                code,
+                origin,
+                outputs: Outputs::nothing(),
+            });
         }
+        called
     }
 }
 

@@ -6,7 +6,9 @@ use tee_base::{Code, NoMemory};
 
 const ROWS: &[Row] = &[
     (Do::Open(1), &[]),
-    (Do::Turns(1, 5), &[(1, FINE, APP, NONE)]),
+    (Do::TurnWithoutStore(1), &[]),
+    (Do::Turns(1, 3), &[]),
+    (Do::TurnWithoutStore(1), &[(1, FINE, APP, NONE)]),
     // before it runs
     (Do::Invoke(1, 4, 100, 0), &[]),
     (Do::Cancel(2), &[(2, Code::CANCEL, TEE, NONE)]),

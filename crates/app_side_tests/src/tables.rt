@@ -45,6 +45,8 @@ pub enum Do {
     Cancel(u64),
     /// So many turns of the instance. The last of them has the last of the replies.
     Turns(u8, u32),
+    /// A turn that needs no store, by the call that is given none.
+    TurnWithoutStore(u8),
     /// A turn in which the store fails, and a change is in doubt.
     LostTurn(u8),
     Starve(u8),
@@ -469,6 +471,17 @@ fn starve(rt: &impl Abort, side: &mut AppSide<Actor>, instance: u8) -> Replies
     side.starve(instance)
 }
 
+/// A turn that needs no store, and is given none.
+fn turn_without_store(rt: &impl Abort, side: &mut AppSide<Actor>, instance: u8) -> Replies
+    ensures { is_lost side.new ≡ is_lost side.old }
+{
+    assert!(rt; side.turns() < MOST);
+    assert!(rt; !side.needs_store(instance));
+    let Turned { kind, replies } = side.turn_without_store(instance);
+    assert!(rt; kind == TurnKind::Plain);
+    replies
+}
+
 /// What is asked of the application, if the event is that.
 fn look(rt: &impl Abort, side: &AppSide<Actor>, what: Do) {
     match what {
@@ -478,12 +491,13 @@ fn look(rt: &impl Abort, side: &AppSide<Actor>, what: Do) {
     }
 }
 
-/// What is no call and makes no turn of the application, with its replies.
+/// What is no call and has no part in the store, with its replies.
 fn other(rt: &impl Abort, side: &mut AppSide<Actor>, what: Do) -> Replies
     ensures { is_lost side.new ≡ is_lost side.old }
 {
     match what {
         Do::Cancel(op) => side.cancel(op),
+        Do::TurnWithoutStore(instance) => turn_without_store(rt, side, instance),
         Do::Starve(instance) => starve(rt, side, instance),
         Do::Teardown(instance, code) => side.teardown(instance, code),
         _ => {

@@ -70,7 +70,7 @@ module _ {V A : Type 0} where
   pub knows_by : (count : ℕ) (p q : PassView V A) → GoesOnBy count p q → KnowsMore p q
   knows_by count p q g = record { app = g.app; client = g.client; cell = g.cell; trail = g.trail }
 
-  origin_later : (t u : List (HostedEvent V A)) (o : Origin V A) → IsPrefix t u → origin_in t ≡ Some o → origin_in u ≡ Some o
+  pub origin_later : (t u : List (HostedEvent V A)) (o : Origin V A) → IsPrefix t u → origin_in t ≡ Some o → origin_in u ≡ Some o
   origin_later [] u o p is = absurd (let n : Option (Origin V A) = None in let e : n ≡ Some o = is in cc)
   origin_later (Begins first ∷ t) u o p is = subst (λ (x : List (HostedEvent V A)). origin_in x ≡ Some o) p.1 is
   origin_later (Made l ∷ t) u o p is = absurd (let n : Option (Origin V A) = None in let e : n ≡ Some o = is in cc)

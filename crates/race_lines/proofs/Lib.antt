@@ -1,4 +1,4 @@
-mod FollowLemmas
-mod GoLemmas
+pub mod FollowLemmas
+pub mod GoLemmas
 mod LineLemmas
 mod WorkerLemmas

@@ -20,7 +20,7 @@ use tee_base::{Bytes, NoMemory};
 
 impl LineBuffer {
     ghost use Rattle.std.specs.Prelude.{◌≡◌, ◌++◌, OnOk};
-    ghost use Rattle.report.specs.Texts.{shown_text, outputs_text};
+    ghost use Rattle.report.specs.Texts.{shown_text, outputs_text, reply_text};
 
     /// What is shown of the parameter of this index.
     fn shown(&mut self, index: u64, shown: &Shown) -> Result<(), NoMemory>
@@ -56,6 +56,19 @@ impl LineBuffer {
         self.shown(2, &outputs.p2)?;
         self.shown(3, &outputs.p3)
     }
+
+    /// Appends the line of a reply.
+    fn reply(&mut self, name: &[u8], reply: &Reply) -> Result<(), NoMemory>
+        ensures { OnOk result (self.new ≡ self.old ++ reply_text name.now reply.now) }
+    {
+        self.text(name)?;
+        self.numbered(b" ", reply.op)?;
+        self.text(b" ")?;
+        self.code(reply.code)?;
+        self.numbered(b" ", u64::from(reply.origin.number()))?;
+        self.outputs(&reply.outputs)?;
+        self.text(b"\n")
+    }
 }
 
 /// The line of a reply: `NAME OP CODE ORIGIN`, the code in eight hexadecimal digits, and then each output as ` pI=A,B`,
@@ -64,15 +77,7 @@ pub fn reply_line(alloc: Global, name: &[u8], reply: &Reply) -> Result<Bytes, No
     ensures { IfOk result (λ line. line ≡ reply_text name.now reply.now) }
 {
     let mut line = LineBuffer::new(alloc);
-    line.text(name)?;
-    line.text(b" ")?;
-    line.number(reply.op)?;
-    line.text(b" ")?;
-    line.code(reply.code)?;
-    line.text(b" ")?;
-    line.number(u64::from(reply.origin.number()))?;
-    line.outputs(&reply.outputs)?;
-    line.text(b"\n")?;
+    line.reply(name, reply)?;
     Ok(line.into_bytes())
 }
 

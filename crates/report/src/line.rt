@@ -1,5 +1,6 @@
 //! A text that is put together from pieces.
 
+use itoa::Buffer;
 use std::alloc::Global;
 use std::marker::Model;
 use tee_base::{Bytes, Code, NoMemory};
@@ -49,9 +50,16 @@ impl LineBuffer {
         ensures appended { OnOk result (self.new ≡ self.old ++ decimal number) }
         ensures unchanged { OnErr result (self.new ≡ self.old) }
     {
-        let digits = number.to_string(self.alloc)?;
-        self.bytes.extend_from_slice(digits.as_bytes())?;
-        Ok(())
+        let mut digits = Buffer::new();
+        self.text(digits.format(number).as_bytes())
+    }
+
+    /// Appends a piece of text, and behind it a number in decimal digits.
+    pub(crate) fn numbered(&mut self, front: &[u8], number: u64) -> Result<(), NoMemory>
+        ensures { OnOk result (self.new ≡ self.old ++ (front.now ++ decimal number)) }
+    {
+        self.text(front)?;
+        self.number(number)
     }
 
     /// Appends bytes in lower-case hexadecimal digits, two for each. Want of memory changes nothing.

@@ -5,7 +5,6 @@ ghost use Rattle.alone.specs.KeptLogs.{event_by};
 ghost use Rattle.report.specs.LogTexts.{is_call, log_text};
 
 use crate::line::LineBuffer;
-use crate::reply_line;
 use alone::{AppLog, LogEntry, LogEvent, Reply};
 use script::call_text;
 use std::alloc::Global;
@@ -39,14 +38,6 @@ impl LineBuffer {
     ghost use Rattle.alone.specs.KeptLogs.{event_by};
     ghost use Rattle.report.specs.LogTexts.{entry_line, event_text};
     ghost use Rattle.report.specs.Texts.{reply_text};
-
-    /// A piece of text, and behind it a number in decimal digits.
-    fn numbered(&mut self, front: &[u8], number: u64) -> Result<(), NoMemory>
-        ensures { OnOk result (self.new ≡ self.old ++ (front.now ++ decimal number)) }
-    {
-        self.text(front)?;
-        self.number(number)
-    }
 
     /// The event of an entry in words. The operation of a call has the number `op`.
     fn event(&mut self, alloc: Global, op: u64, entry: &LogEntry) -> Result<(), NoMemory>
@@ -90,13 +81,12 @@ impl LineBuffer {
     }
 
     /// The lines of replies.
-    fn replies(&mut self, alloc: Global, name: &[u8], replies: &[Reply]) -> Result<(), NoMemory>
+    fn replies(&mut self, name: &[u8], replies: &[Reply]) -> Result<(), NoMemory>
         ensures { OnOk result (self.new
             ≡ self.old ++ flat_map (reply_text name.now) replies.now) }
     {
         for reply in replies {
-            let line = reply_line(alloc, name, reply)?;
-            self.text(line.as_slice())?;
+            self.reply(name, reply)?;
         }
         Ok(())
     }
@@ -117,7 +107,7 @@ pub fn log_lines(alloc: Global, name: &[u8], log: &AppLog) -> Result<Bytes, NoMe
         place += 1;
         text.entry_line(alloc, name, place, op, entry)?;
         let (own, others) = split(left, entry.replies);
-        text.replies(alloc, name, own)?;
+        text.replies(name, own)?;
         left = others;
         op = op_after(op, entry);
     }

@@ -9,7 +9,12 @@ use tee_base::{NoMemory, limits};
 
 /// Adds an entry of this client with its replies at the end, where the log has a place for it and there is memory. Else the log stays,
 /// and the answer is NoMemory.
-pub fn add(log: &mut AppLog, client: u8, event: LogEvent, replies: Replies) -> Result<(), NoMemory>
+pub fn add(
+    log: &mut AppLog,
+    client: u8,
+    event: LogEvent,
+    mut replies: Replies,
+) -> Result<(), NoMemory>
     ensures added { OnOk result (log.new.entries
         ≡ log.old.entries ++ entry client (event_by client event) replies ∷ []) }
     ensures unchanged { OnErr result (log.new.entries ≡ log.old.entries) }
@@ -19,6 +24,6 @@ pub fn add(log: &mut AppLog, client: u8, event: LogEvent, replies: Replies) -> R
         return Err(NoMemory);
     }
     log.reserve(1, replies.len())?;
-    log.push(client, event, replies);
+    log.push(client, event, &mut replies);
     Ok(())
 }

@@ -34,6 +34,7 @@ use Rattle.shared_parts.specs.StorageParts.{IsMarked, LostBy, Opened, StorageEnt
 use Rattle.shared_parts.specs.StorageTurns.{MakesTurn, MakesTurnOver}
 use Rattle.shared_parts.specs.declared.missed.Missed.{Missed}
 use Rattle.shared_parts.specs.declared.recorded.Posted.{Posted}
+use Rattle.shared_parts.specs.declared.recorded.Recorded.{Recorded}
 
 -- ---- trails of the storage
 
@@ -241,6 +242,11 @@ module _ {V A : Type 0} (K : VolumeKeeper V) (behaviour : Behaviour A) (app : �
             (machine_of start);
       } in o))
       more.original
+
+  -- what is kept of an application beside its log is kept of one that is the same
+  pub hosted_same : (was now : Recorded A) (v : SeatView StoragePart (StorageEntry V)) (misses : List Missed) → now ≡ was → Hosted was.side was.log v misses
+      → Hosted now.side now.log v misses
+  hosted_same was now v misses same kept = subst (λ (x : Recorded A). Hosted x.side x.log v misses) (sym same) kept
 
   -- an event that leaves the storage
   pub went_hosted : (side after : AppSide A) (log more : KeptLog) (v : SeatView StoragePart (StorageEntry V)) (misses : List Missed) → Hosted side log v misses

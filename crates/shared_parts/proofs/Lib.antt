@@ -1,7 +1,6 @@
 pub mod HostedLemmas
 pub mod OpeningLemmas
 pub mod PartLemmas
-pub mod ReplyLemmas
 pub mod StepLemmas
 pub mod StorageLemmas
 pub mod StorageSteps

@@ -14,13 +14,13 @@ use Rattle.shared_parts.specs.declared.unseated.UnseatedApp.{UnseatedApp}
 module _ {V A : Type 0} where
   -- what is seen of it with a seat of this cell that knows this
   abbrev pub seated_view : UnseatedApp A → TableId → SeatView StoragePart (StorageEntry V) → HostedView V A
-  seated_view u storage v = record { origin = origin_of storage v u.start.value; log = u.recorded.log.entries; misses = u.misses }
+  seated_view u storage v = record { origin = origin_of storage v u.start.value; log = u.recorded.value.log.entries; misses = u.misses }
 
 -- behaviour has the application's two stated functions
 module _ {V A : Type 0} (K : VolumeKeeper V) (behaviour : Behaviour A) where
   -- with such a seat it is as its type keeps it
   abbrev pub FitsSeat : UnseatedApp A → TableId → SeatView StoragePart (StorageEntry V) → Type 0
-  FitsSeat u storage v = IsHosted K behaviour u.app u.recorded.side u.recorded.log storage v u.start.value u.misses
+  FitsSeat u storage v = IsHosted K behaviour u.app u.recorded.value.side u.recorded.value.log storage v u.start.value u.misses
 
 module _ {V : Type 0} where
   -- a seat that is free again knows no less of the trail, and its part and what it missed are as they were

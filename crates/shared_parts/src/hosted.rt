@@ -22,7 +22,8 @@ pub struct HostedApp<V: Volume, A: Application> {
     pub(crate) alloc: Global,
     /// Its place among the applications, and so its part of the storage.
     pub(crate) app: u8,
-    pub(crate) recorded: Recorded<A>,
+    /// It is behind a pointer, since the value goes into its cell and out of it at each call.
+    pub(crate) recorded: Box<Recorded<A>>,
     pub(crate) seat: CellSeat<Storage<V, A>>,
     /// The application as it began. It has no bytes.
     pub(crate) start: Snapshot<AppSide<A>>,
@@ -44,11 +45,11 @@ impl<V: Volume, A: Application> Model for HostedApp<V, A> {
 
     ghost view = { λ h. record {
       origin = origin_of (cell_id_of h.seat) (known h.seat) h.start.value;
-      log = h.recorded.log.entries;
+      log = h.recorded.value.log.entries;
       misses = h.misses;
     } };
 
-    ghost invariant = { λ h. IsHosted V.keeper A.behaviour h.app h.recorded.side h.recorded.log
+    ghost invariant = { λ h. IsHosted V.keeper A.behaviour h.app h.recorded.value.side h.recorded.value.log
         (cell_id_of h.seat) (known h.seat) h.start.value h.misses };
 }
 

@@ -1,12 +1,11 @@
 //! What clients ask of an application that is taken out of its cell.
 
-ghost use Rattle.std.specs.Prelude.{◌≡◌, ◌≢◌, ◌<◌, ◌≤◌, ◌==◌, ◌^◌, [], IfErr, IfOk, OnErr, OnOk, false, find, length, option_map, slice_set, take, true};
+ghost use Rattle.std.specs.Prelude.{◌≡◌, ◌≢◌, ◌<◌, ◌≤◌, ◌^◌, [], IfErr, IfOk, OnErr, OnOk, false, slice_set, true};
 ghost use lib.ListN.{replicate};
 ghost use Rattle.tee_base.specs.declared.limits.TheConstants.{MAX_NUMBER};
 ghost use Rattle.turn_cell.specs.View.{with_miss};
 ghost use Rattle.turn_cell.specs.Words.{IsSeatOf, cell_id, cell_id_of, name_of, view as known};
-ghost use Rattle.alone.specs.KeptLogs.{log_with_replies};
-ghost use Rattle.alone.specs.Logs.{Adds, bytes_of_call, is_full, machine_by, replies_in};
+ghost use Rattle.alone.specs.Logs.{Adds, bytes_of_call, is_full, machine_by};
 ghost use Rattle.alone.specs.Step.{Called, Cancelled};
 ghost use Rattle.app_side.specs.Represents.{event_of, has_doubt, is_lost, machine_of, turns_of};
 ghost use Rattle.shared_parts.specs.HostedApps.{IsNewSeat, IsSeatFor, IsTurnRefusal, KeepsHosted, TurnsInStorage, WantsStorage, missed_by, missed_more, none_missed, origin_of, reply_in, tells_loss};
@@ -18,7 +17,7 @@ use crate::hosted::{CLIENTS, HostedApp};
 use crate::missed::Missed;
 use crate::recorded::{Posted, Recorded, SharedAnswer};
 use crate::storage::Storage;
-use alone::{AppLog, Call, LogEntry, Reply, TurnKind};
+use alone::{AppLog, Call, Reply, TurnKind};
 use app_api::Application;
 use app_side::AppSide;
 use std::alloc::Global;
@@ -40,27 +39,6 @@ fn note_miss(misses: &mut [Missed; CLIENTS], client: u8, word: u64)
     let place = client as usize;
     let count = misses[place].count + 1;
     misses[place] = Missed { count, word };
-}
-
-/// How many replies the entries have of these.
-fn count_replies(entries: &[LogEntry], replies: &[Reply]) -> usize
-    ensures few { result ≤ length replies.now }
-    ensures value { take result replies.now
-        ≡ replies_in (log_with_replies entries.now replies.now) }
-{
-    let mut count = 0;
-    for entry in entries {
-        let left = replies.len() - count;
-        count += left.min(entry.replies as usize);
-    }
-    count
-}
-
-/// The reply to the operation of this number.
-fn find_reply(replies: &[Reply], op: u64) -> Option<&Reply>
-    ensures { option_map (λ r. r.now) result ≡ find (λ r. r.op == op) replies.now }
-{
-    replies.iter().find(|r| r.op == op)
 }
 
 /// A turn over the storage, which its seat takes and gives back.
@@ -120,17 +98,20 @@ impl<V: Volume, A: Application> HostedApp<V, A> {
         ensures err { IfErr result (λ back. back ≡ seat) }
     {
         let start = Snapshot::of(&side);
-        match Recorded::new(alloc, side) {
-            Ok(recorded) => Ok(HostedApp {
-                alloc,
-                app,
-                recorded,
-                seat,
-                start,
-                misses: [NONE_MISSED; CLIENTS],
-            }),
-            Err(NoMemory) => Err(seat),
-        }
+        let Ok(made) = Recorded::new(alloc, side) else {
+            return Err(seat);
+        };
+        let Ok(recorded) = Box::new(alloc, made) else {
+            return Err(seat);
+        };
+        Ok(HostedApp {
+            alloc,
+            app,
+            recorded,
+            seat,
+            start,
+            misses: [NONE_MISSED; CLIENTS],
+        })
     }
 
     /// What its type keeps: nothing is to be done for it.
@@ -212,7 +193,7 @@ impl<V: Volume, A: Application> HostedApp<V, A> {
                     return Ok(self.recorded.turn_without_store(client, instance));
                 }
                 let app = self.app;
-                let recorded = &mut self.recorded;
+                let recorded = &mut *self.recorded;
                 match turn_in_storage(storage, &mut self.seat, app, recorded, client, instance) {
                     Ok(kind) => Ok(kind),
                     Err(busy) => {
@@ -229,9 +210,7 @@ impl<V: Volume, A: Application> HostedApp<V, A> {
     pub fn reply_to(&self, op: u64) -> Result<Option<Reply>, NoMemory>
         ensures { IfOk result (λ found. found ≡ reply_in op self.now.log) }
     {
-        let (entries, replies) = self.recorded.log_parts();
-        let count = count_replies(entries, replies);
-        match find_reply(&replies[..count], op) {
+        match self.recorded.log.reply_to(op) {
             None => Ok(None),
             Some(reply) => Ok(Some(reply.copy(self.alloc)?)),
         }
@@ -248,7 +227,7 @@ impl<V: Volume, A: Application> HostedApp<V, A> {
             ≡ part_of (machine_by A.behaviour self.origin.machine self.log) }
     {
         let HostedApp { recorded, seat, .. } = self;
-        let Recorded { side, log } = recorded;
+        let Recorded { side, log, .. } = Box::into_inner(recorded);
         drop(side);
         (log, seat)
     }

@@ -1,6 +1,8 @@
 //! An application beside its log.
 
-use alone::AppLog;
+ghost use Rattle.std.specs.Prelude.{◌≡◌, []};
+
+use alone::{AppLog, Replies};
 use app_side::AppSide;
 use thiserror::Error;
 use turn_cell::Busy;
@@ -11,6 +13,17 @@ use turn_cell::Busy;
 pub struct Recorded<A> {
     pub side: AppSide<A>,
     pub log: AppLog,
+    /// A table for the replies of one event, so that not each event needs a new one.
+    pub(crate) replies: Replies,
+}
+
+/// Leaves no reply in a table.
+pub(crate) fn clear(replies: &mut Replies)
+    ensures { replies.new ≡ [] }
+{
+    if !replies.is_empty() {
+        *replies = Replies::none();
+    }
 }
 
 /// What is told of a call: the number of its operation, and the instance for which it waits, 0 where it is answered already.

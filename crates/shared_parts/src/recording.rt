@@ -2,7 +2,7 @@
 
 ghost use Rattle.std.specs.Prelude.{◌≡◌, ◌<◌, ◌≤◌, ◌-◌, ◌^◌, ◌++◌, ◌⊎◌, [], ◌∷◌, ℕ, IfErr, IfOk, OnErr, OnOk, false, true};
 ghost use Rattle.tee_base.specs.declared.limits.TheConstants.{MAX_LOG_BYTES, MAX_NUMBER};
-ghost use Rattle.alone.specs.KeptLogs.{event_by, log_with_replies};
+ghost use Rattle.alone.specs.KeptLogs.{event_by};
 ghost use Rattle.alone.specs.Logs.{Adds, bytes_in, bytes_of_call, entry, is_full};
 ghost use Rattle.alone.specs.Machine.{Machine};
 ghost use Rattle.alone.specs.Step.{Called, Cancelled, Lost, needs_store};
@@ -10,8 +10,8 @@ ghost use Rattle.app_side.specs.Represents.{Represents, event_of, is_lost, turns
 ghost use Rattle.app_side.specs.Storeless.{IsStoreless, wants_store};
 ghost use Rattle.shared_parts.specs.InStep.{GoesInStep, HasGrown, HasPart, IsKeptBy, IsPosted, IsRefusal, IsReserved, KnowsLoss, StaysInStep, StoragePart, part_of};
 
-use crate::recorded::{Posted, Recorded, SharedAnswer};
-use alone::{AppLog, Call, LogEntry, LogEvent, REPLIES, Replies, Reply, TurnKind, call_bytes};
+use crate::recorded::{Posted, Recorded, SharedAnswer, clear};
+use alone::{AppLog, Call, LogEvent, REPLIES, Replies, TurnKind, call_bytes};
 use app_api::Application;
 use app_side::AppSide;
 use std::alloc::Global;
@@ -41,17 +41,13 @@ impl<A: Application> Recorded<A> {
         ensures kept { IfOk result (λ made. (m : Machine A) → Represents side m
             → IsKeptBy A.behaviour m made.side made.log (part_of m)) }
     {
-        let log = AppLog::new(alloc);
-        let mut made = Recorded { side, log };
+        let mut made = Recorded {
+            side,
+            log: AppLog::new(alloc),
+            replies: Replies::none(),
+        };
         made.reserve()?;
         Ok(made)
-    }
-
-    /// The entries of the log, and the list of all their replies, which belong to them in order.
-    pub fn log_parts(&self) -> (&[LogEntry], &[Reply])
-        ensures { log_with_replies result.0.now result.1.now ≡ self.now.log.entries }
-    {
-        self.log.parts()
     }
 
     /// Makes room for an event's entry, for that of a loss found before it, for its replies, and for all that may live then.
@@ -110,9 +106,10 @@ impl<A: Application> Recorded<A> {
             → Represents self.new.side m) }
     {
         self.reserve()?;
-        let made = self.side.call(client, call)?;
+        let mut made = self.side.call(client, call)?;
         made.replies.bounds();
-        self.log.push(client, LogEvent::Call(copy), made.replies);
+        self.log
+            .push(client, LogEvent::Call(copy), &mut made.replies);
         Ok(Posted {
             op: made.op,
             instance: made.instance,
@@ -153,9 +150,9 @@ impl<A: Application> Recorded<A> {
         ensures same { OnErr result (self.new.side ≡ self.old.side) }
     {
         self.reserve()?;
-        let replies = self.side.cancel(op);
+        let mut replies = self.side.cancel(op);
         replies.bounds();
-        self.log.push(client, LogEvent::Cancel(op), replies);
+        self.log.push(client, LogEvent::Cancel(op), &mut replies);
         Ok(())
     }
 
@@ -204,11 +201,14 @@ impl<A: Application> Recorded<A> {
             self.old.log.entries self.new.log.entries }
         ensures kind { IsStoreless result }
     {
-        let made = self.side.turn_without_store(instance);
-        made.replies.bounds();
+        clear(&mut self.replies);
+        let kind = self
+            .side
+            .turn_without_store_into(instance, &mut self.replies);
+        self.replies.bounds();
         self.log
-            .push(client, turn_event(made.kind, instance), made.replies);
-        made.kind
+            .push(client, turn_event(kind, instance), &mut self.replies);
+        kind
     }
 
     /// Whether the storage is lost is told to the application. One that hasn't met the loss yet meets it now, with an entry.
@@ -232,6 +232,6 @@ impl<A: Application> Recorded<A> {
             return;
         }
         self.side.lose();
-        self.log.push(client, LogEvent::Lost, Replies::none());
+        self.log.push(client, LogEvent::Lost, &mut Replies::none());
     }
 }

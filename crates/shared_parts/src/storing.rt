@@ -9,7 +9,7 @@ ghost use Rattle.shared_parts.specs.InStep.{HasPart, IsKeptBy, IsReserved};
 ghost use Rattle.shared_parts.specs.StorageParts.{IsMarked, KeepsStorage, first_of, is_lost_at, loss_after, losses_by, part_at};
 ghost use Rattle.shared_parts.specs.StorageTurns.{MakesTurnOver, TurnsLogged};
 
-use crate::recorded::Recorded;
+use crate::recorded::{Recorded, clear};
 use crate::recording::turn_event;
 use crate::storage::{Loss, Storage};
 use alone::TurnKind;
@@ -39,13 +39,16 @@ fn turn_over<V: Volume, A: Application>(
         kept.old kept.new volume.old volume.new }
 {
     let mut dir = KeptDir::of(alloc, volume, app, kept.take());
-    let made = recorded.side.turn(instance, &mut dir);
+    clear(&mut recorded.replies);
+    let kind = recorded
+        .side
+        .turn_into(instance, &mut dir, &mut recorded.replies);
     let _volume = dir.into_volume(kept);
-    made.replies.bounds();
+    recorded.replies.bounds();
     recorded
         .log
-        .push(client, turn_event(made.kind, instance), made.replies);
-    made.kind
+        .push(client, turn_event(kind, instance), &mut recorded.replies);
+    kind
 }
 
 /// A turn of this kind that lost the storage is its loss.

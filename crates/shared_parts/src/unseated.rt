@@ -23,7 +23,7 @@ use turn_cell::CellSeat;
 pub struct UnseatedApp<A> {
     pub(crate) alloc: Global,
     pub(crate) app: u8,
-    pub(crate) recorded: Recorded<A>,
+    pub(crate) recorded: Box<Recorded<A>>,
     pub(crate) start: Snapshot<AppSide<A>>,
     pub(crate) misses: [Missed; CLIENTS],
 }

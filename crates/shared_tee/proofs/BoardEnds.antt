@@ -23,7 +23,7 @@ use Rattle.shared_tee.specs.Passes.{PassView}
 -- ---- machines with the same parts
 
 module _ {A : Type 0} where
-  abbrev parts_in : World A → List StoragePart
+  abbrev pub parts_in : World A → List StoragePart
   parts_in world = map (λ (m : Machine A). part_of m) world
 
   stores_alike : (kept : ℕ → Bool) (region : ℕ) (world others : World A) (held : Held) → parts_in world ≡ parts_in others → StoresFrom kept region world held → StoresFrom kept region others held
@@ -55,7 +55,7 @@ module _ {A : Type 0} where
       record { machine = t.0; there = t.1; doubt = ap (λ (d : Option Store). is_some d) (sym t.2) ∙ has.doubt }
 
   -- what a crash left has the stores of machines with the same parts
-  left_alike : (world others : World A) (sequence : ℕ) (o : Option Held) → parts_in world ≡ parts_in others → IsLeftOf world sequence o → HasStoresOf others o
+  pub left_alike : (world others : World A) (sequence : ℕ) (o : Option Held) → parts_in world ≡ parts_in others → IsLeftOf world sequence o → HasStoresOf others o
   left_alike world others sequence None same h = h
   left_alike world others sequence (Some held) same (inl h) = inl (stores_alike none_kept 0 world others held same h.1)
   left_alike world others sequence (Some held) same (inr h) = inr (h.0, doubt_alike h.0 world others same h.1, stores_alike (kept_of h.0) 0 world others held same h.3)
@@ -92,6 +92,8 @@ module _ {B V A : Type 0} (K : VolumeKeeper V) (behaviour : Behaviour A) (form :
     rose = λ app h there tells.
         subst (λ (n : ℕ). Rose (view (board_of over.began)).state.faults n) (seen volume).faults
         (subst (λ (n : ℕ). Rose n (K.condition volume).faults) (seen over.began).faults (over.rose app h there tells));
+    size = cc (ap (λ (f : Foundation). f.place) foundation_is);
+    key = cc (ap (λ (f : Foundation). f.place) foundation_is);
     orders = ap (λ (f : Foundation). f.orders) foundation_is;
     ordered = ap (λ (f : Foundation). f.ordered) foundation_is;
     left = left_then;

@@ -133,11 +133,14 @@ module _ {V A : Type 0} (K : VolumeKeeper V) (behaviour : Behaviour A) (cell : T
         sym (get_or_from_slice_get v.own i (own_of p) no_client b.part)
         ∙ ap (λ (ps : List ClientPart). get_or ps i no_client) (sym parts)
         ∙ part_for h.log 0 i i h.misses (omega arith) (omega (arith, lt, eight)) in
+        let made : (own_of p).made ≡ entries_by p.client h.log =
+        ap (λ (q : ClientPart). q.made) part ∙ ap (λ (k : ℕ). entries_by k h.log) (sym client) in
         record {
           origin = ap (λ (t : List (HostedEvent V A)). origin_in t) b.is.trail ∙ ap (λ (o : Origin V A). Some o) (sym apart.0);
           opened_is = refl;
           trail = whole;
-          made = ap (λ (q : ClientPart). q.made) part ∙ ap (λ (k : ℕ). entries_by k h.log) (sym client);
+          made = made;
+          own = sym made ∙ b.is.made;
           clients = keeps.clients;
           legal = keeps.legal;
         }

@@ -1,7 +1,8 @@
 mod AllEnd
 mod BeginLemmas
-mod BoardEnds
+pub mod BoardEnds
 mod CellEnds
+pub mod Crosses
 mod DealLemmas
 mod Exits
 mod JoinLemmas

@@ -15,7 +15,7 @@ use Rattle.tee_core.specs.World.{World}
 use Rattle.shared_parts.specs.HostedApps.{AreOfClients, HostedView, tells_loss, trail_with}
 use Rattle.shared_parts.specs.InStep.{StoragePart, part_of}
 use Rattle.shared_parts.specs.StorageParts.{IsMarked, IsStoredFor, Opened, StorageEntry, first_of, is_lost_at}
-use Rattle.shared_tee.specs.Passes.{IsPassOf, PassView, Places, origin_in, own_of}
+use Rattle.shared_tee.specs.Passes.{IsPassOf, PassView, Places, origin_in, log_of, own_of}
 
 -- ---- which passes come back
 
@@ -44,13 +44,15 @@ module _ {V A : Type 0} (behaviour : Behaviour A) where
 -- behaviour has the applications' two stated functions
 module _ {V A : Type 0} (K : VolumeKeeper V) (behaviour : Behaviour A) where
   -- an application over a storage that was opened so ended so, as one of its passes may tell: it began where the pass knew it to begin, and
-  -- its log goes on from the one that the pass knew. Of the pass's client the log has what the pass made, each entry once and in order, and
-  -- it has no entry of another client than the eight. Where the mark is set the log is legal from the origin's machine on
+  -- its log goes on from the one that the pass knew. Of the pass's client the log has what the pass made, each entry once and in order. Those
+  -- are the entries of that client that the pass knew. The log has no entry of another client than the eight. Where the mark is set it is legal
+  -- from the origin's machine on
   pub record EndsFor (opened : StorageEntry V) (p : PassView V A) (h : HostedView V A) : Type 0 where
     pub origin : origin_in p.seat.trail ≡ Some h.origin
     pub opened_is : h.origin.opened ≡ opened
     pub trail : IsPrefix p.seat.trail (trail_with h.origin h.log)
     pub made : (own_of p).made ≡ entries_by p.client h.log
+    pub own : entries_by p.client h.log ≡ entries_by p.client (log_of p)
     pub clients : AreOfClients h.log
     pub legal : IsMarked K opened → IsLegal behaviour h.origin.machine h.log
 
@@ -103,7 +105,9 @@ module _ {V A : Type 0} (K : VolumeKeeper V) (behaviour : Behaviour A) where
     pub faults : (view (board_of over.began)).state.faults ≤ (view board).state.faults
     pub rose : (app : ℕ) (h : HostedView V A) → slice_get over.ends app ≡ Some h → tells_loss h.log ≡ true
         → Rose (view (board_of over.began)).state.faults (view board).state.faults
-    -- no order was made to it
+    -- it is of its size and under its key, and no order was made to it
+    pub size : (view board).size ≡ (view (board_of over.began)).size
+    pub key : (view board).key ≡ (view (board_of over.began)).key
     pub orders : (view board).state.orders ≡ (view (board_of over.began)).state.orders
     pub ordered : (view board).ordered ≡ (view (board_of over.began)).ordered
     -- where the mark is set, each image and counter that a crash may leave opens to the stores of the machines to which the logs led, with the

@@ -4,12 +4,18 @@ ghost use Rattle.shared_tee.specs.Passes.{IsPassOf};
 
 use super::shared::{OnePass, Runtime, is_answered, open, turn, with_bytes, with_two};
 use app_api::Params;
+use sample_apps::Store;
 use shared_parts::SharedAnswer;
 use std::alloc::Global;
 use std::process::Abort;
 
 /// One client opens a session, and another makes its turns. The first one finds the reply.
-fn post_and_turn(rt: &impl Abort, tee: &Runtime, first: &mut OnePass, second: &mut OnePass)
+fn post_and_turn(
+    rt: &impl Abort,
+    tee: &Runtime<Store>,
+    first: &mut OnePass<Store>,
+    second: &mut OnePass<Store>,
+)
     requires first { IsPassOf tee.now first.old }
     requires second { IsPassOf tee.now second.old }
 {
@@ -26,7 +32,7 @@ fn post_and_turn(rt: &impl Abort, tee: &Runtime, first: &mut OnePass, second: &m
 
 #[test]
 fn one_posts_and_another_turns(rt: HostRuntime) {
-    let (tee, mut first, mut second) = with_two(&rt, rt.alloc(), 0, 1);
+    let (tee, mut first, mut second) = with_two(&rt, rt.alloc(), (Store::Idle, Store::Idle), 0, 1);
     post_and_turn(&rt, &tee, &mut first, &mut second);
     drop(first);
     drop(second);
@@ -39,7 +45,7 @@ const CALLS: usize = 128;
 const MANY: usize = 524_288;
 
 /// The log takes so many bytes and no more; a call without bytes still has its place.
-fn fill(rt: &impl Abort, alloc: Global, tee: &Runtime, pass: &mut OnePass)
+fn fill(rt: &impl Abort, alloc: Global, tee: &Runtime<Store>, pass: &mut OnePass<Store>)
     requires { IsPassOf tee.now pass.old }
 {
     let many = with_bytes(rt, alloc, MANY);
@@ -58,7 +64,7 @@ fn fill(rt: &impl Abort, alloc: Global, tee: &Runtime, pass: &mut OnePass)
 
 #[test]
 fn a_log_is_full_of_bytes(rt: HostRuntime) {
-    let (tee, mut first, second) = with_two(&rt, rt.alloc(), 0, 1);
+    let (tee, mut first, second) = with_two(&rt, rt.alloc(), (Store::Idle, Store::Idle), 0, 1);
     fill(&rt, rt.alloc(), &tee, &mut first);
     drop(first);
     drop(second);

@@ -1,74 +1,42 @@
-//! Passes of two applications by turns, and what the logs tell, computed again.
+//! Two threads, one at each of two applications, and what their logs tell, computed again.
 
-ghost use Rattle.std.specs.Prelude.{◌≡◌, ◌<◌, ◌^◌, ◌∷◌, IfOk, vec_len};
+ghost use Rattle.std.specs.Prelude.{◌≡◌, ◌<◌, ◌≤◌, ◌^◌, ◌∷◌, false, IfOk, vec_len};
 ghost use Rattle.std.specs.List.{insert};
-ghost use Rattle.app_api.specs.Hosts.{HostsFit};
+ghost use Rattle.std.specs.Thread.{IsSend, IsSync};
 ghost use Rattle.app_side.specs.Represents.{is_lost};
 ghost use Rattle.shared_tee.specs.Ending.{ArePasses};
 ghost use Rattle.shared_tee.specs.Passes.{IsPassOf, PassView};
 
+use super::shared::{begun, bytes, check_few};
 use alone::{AppLog, LogEntry, LogEvent, Outputs, Replies, Reply, Shown, TurnKind, copy_call};
 use app_api::{Application, Host, Param, Params};
 use app_side::AppSide;
 use boards::MemBoard;
-use epoch::{OpenAnswer, Unopened};
 use sample_apps::{Sample, sample_hosts};
 use shared_parts::{Posted, SharedAnswer};
-use shared_tee::{Pass, SharedTee, SharedTeeOver};
+use shared_tee::{Pass, SharedTeeOver};
 use std::alloc::Global;
 use std::process::Abort;
+use std::thread::{Threads, join};
 use store_api::{MapStore, Volume};
-use tee_base::{Bytes, Code};
-use tee_core::VolumeInUse;
-
-type Runtime = SharedTee<MemBoard, Sample>;
-
-type OnePass = Pass<VolumeInUse<MemBoard>, Sample>;
-
-const KEY: [u8; 32] = [7; 32];
+use tee_base::Code;
 
 const SEED: [u8; 32] = [9; 32];
-
-const BLOCKS: u64 = 43_720;
 
 /// How many passes the six applications have.
 const PASSES: usize = 48;
 
-/// How many calls each pass makes, five in each of its sessions.
+/// How many calls a thread makes, five in each of its sessions.
 const CALLS: usize = 2_000;
 
 /// How many turns it makes after each call.
 const TURNS: usize = 8;
 
+/// Most tries of one turn.
+const TRIES: u32 = 1_000_000_000;
+
 /// Most turns that are made, far below the bound of the calls.
 const MOST: u64 = 1 << 40;
-
-fn opened(
-    alloc: Global,
-    board: MemBoard,
-    hosts: Vec<Host<Sample>>,
-) -> Result<(Runtime, Vec<OnePass>), OpenAnswer>
-    requires { HostsFit hosts.items }
-    ensures { IfOk result (λ made. ArePasses made.0 made.1.items) }
-{
-    match SharedTee::new(alloc, board, hosts, SEED) {
-        Ok(made) => Ok(made),
-        Err(unopened) => {
-            let Unopened { board, why } = unopened;
-            drop(board);
-            Err(why)
-        }
-    }
-}
-
-/// The sample applications over a blank board, and all passes.
-fn begun(rt: &impl Abort, alloc: Global) -> (Runtime, Vec<OnePass>)
-    ensures { ArePasses result.0 result.1.items }
-{
-    let hosts = sample_hosts(alloc).expect(rt, "hosts");
-    let board = MemBoard::blank(alloc, KEY, BLOCKS).expect(rt, "a board");
-    opened(alloc, board, hosts).expect(rt, "a beginning")
-}
 
 /// The first client's passes of the first two applications, and the others. With two such passes at their places the list is whole.
 fn two_of<V: Volume, A: Application>(
@@ -135,18 +103,6 @@ fn put_back<V: Volume, A: Application>(
     passes
 }
 
-/// The pass may make a call.
-fn check_few(rt: &impl Abort, pass: &OnePass)
-    ensures { pass.now.calls < 2 ^ 60 }
-{
-    assert!(rt; pass.calls() < 1 << 60);
-}
-
-/// The bytes in memory of their own.
-fn bytes(rt: &impl Abort, alloc: Global, from: &[u8]) -> Bytes {
-    Bytes::from_slice(alloc, from).expect(rt, "bytes")
-}
-
 /// An object that is made anew, with its content.
 fn object(rt: &impl Abort, alloc: Global) -> Params {
     Params {
@@ -174,9 +130,9 @@ fn params_of(rt: &impl Abort, alloc: Global, step: usize) -> Params {
 }
 
 /// Opens a session, makes an object anew, draws bytes, closes the object's handle, or closes the session.
-fn make(
-    tee: &Runtime,
-    pass: &mut OnePass,
+fn make<V: Volume, A: Application>(
+    tee: &SharedTeeOver<V, A>,
+    pass: &mut Pass<V, A>,
     step: usize,
     params: &Params,
 ) -> Result<Posted, SharedAnswer>
@@ -194,7 +150,13 @@ fn make(
 }
 
 /// One of a session's calls, which has to be made.
-fn call(rt: &impl Abort, alloc: Global, tee: &Runtime, pass: &mut OnePass, step: usize)
+fn call<V: Volume, A: Application>(
+    rt: &impl Abort,
+    alloc: Global,
+    tee: &SharedTeeOver<V, A>,
+    pass: &mut Pass<V, A>,
+    step: usize,
+)
     requires { IsPassOf tee.now pass.old }
     ensures { IsPassOf tee.now pass.new }
 {
@@ -205,44 +167,82 @@ fn call(rt: &impl Abort, alloc: Global, tee: &Runtime, pass: &mut OnePass, step:
     assert!(rt; made);
 }
 
-/// A turn of the first instance, which has to be made.
-fn turn(rt: &impl Abort, tee: &Runtime, pass: &mut OnePass)
+/// A turn, which is tried again where it finds the storage's cell taken.
+fn turn<V: Volume, A: Application>(
+    rt: &impl Abort,
+    tee: &SharedTeeOver<V, A>,
+    pass: &mut Pass<V, A>,
+)
     requires { IsPassOf tee.now pass.old }
     ensures { IsPassOf tee.now pass.new }
 {
-    check_few(rt, pass);
-    let made = tee.try_turn(pass, 1).is_ok();
-    assert!(rt; made);
+    for _ in 0..TRIES {
+        check_few(rt, pass);
+        match tee.try_turn(pass, 1) {
+            Ok(_) => return,
+            Err(why) => assert!(rt; matches!(why, SharedAnswer::Busy(_))),
+        }
+    }
+    panic!(rt; "no turn");
 }
 
-/// Turns of both passes, one after the other.
-fn turns(rt: &impl Abort, tee: &Runtime, first: &mut OnePass, second: &mut OnePass)
-    requires first { IsPassOf tee.now first.old }
-    requires second { IsPassOf tee.now second.old }
-    ensures first { IsPassOf tee.now first.new }
-    ensures second { IsPassOf tee.now second.new }
+fn turns<V: Volume, A: Application>(
+    rt: &impl Abort,
+    tee: &SharedTeeOver<V, A>,
+    pass: &mut Pass<V, A>,
+)
+    requires { IsPassOf tee.now pass.old }
+    ensures { IsPassOf tee.now pass.new }
 {
     for _ in 0..TURNS {
-        turn(rt, tee, first);
-        turn(rt, tee, second);
+        turn(rt, tee, pass);
     }
 }
 
-/// Both passes make the calls of one session after another. Turns of both stand between.
-fn work(rt: &impl Abort, alloc: Global, tee: &Runtime, first: &mut OnePass, second: &mut OnePass)
-    requires first { IsPassOf tee.now first.old }
-    requires second { IsPassOf tee.now second.old }
-    ensures first { IsPassOf tee.now first.new }
-    ensures second { IsPassOf tee.now second.new }
+/// The calls of one session after another, each with its turns.
+fn work<V: Volume, A: Application>(
+    rt: &impl Abort,
+    alloc: Global,
+    tee: &SharedTeeOver<V, A>,
+    pass: Pass<V, A>,
+) -> Pass<V, A>
+    requires { IsPassOf tee.now pass }
+    ensures { IsPassOf tee.now result }
 {
+    let mut pass = pass;
     for number in 0..CALLS {
-        call(rt, alloc, tee, first, number % 5);
-        call(rt, alloc, tee, second, number % 5);
-        turns(rt, tee, first, second);
+        call(rt, alloc, tee, &mut pass, number % 5);
+        turns(rt, tee, &mut pass);
     }
+    pass
 }
 
-/// Whether the same is shown of an output.
+/// Each of two passes works in a thread of its own.
+fn work_beside<R: Threads + Abort + Sync, V: Volume + Send, A: Application + Send>(
+    rt: &R,
+    alloc: Global,
+    tee: &SharedTeeOver<V, A>,
+    first: Pass<V, A>,
+    second: Pass<V, A>,
+) -> (Pass<V, A>, Pass<V, A>)
+    requires first { IsPassOf tee.now first }
+    requires second { IsPassOf tee.now second }
+    ensures first { IsPassOf tee.now result.0 }
+    ensures second { IsPassOf tee.now result.1 }
+{
+    join(
+        rt,
+        move || -> Pass<V, A>
+            requires { IsSync R.row × IsSend V.row × IsSend A.row × IsPassOf tee.now first }
+            ensures { IsPassOf tee.entry.now result }
+        { work(rt, alloc, tee, first) },
+        move || -> Pass<V, A>
+            requires { IsSync R.row × IsSend V.row × IsSend A.row × IsPassOf tee.now second }
+            ensures { IsPassOf tee.entry.now result }
+        { work(rt, alloc, tee, second) },
+    )
+}
+
 fn is_shown(one: &Shown, other: &Shown) -> bool {
     match (one, other) {
         (Shown::Nothing, Shown::Nothing) => true,
@@ -259,7 +259,6 @@ fn is_shown(one: &Shown, other: &Shown) -> bool {
     }
 }
 
-/// Whether the same is shown of all four.
 fn are_shown(one: &Outputs, other: &Outputs) -> bool {
     is_shown(&one.p0, &other.p0)
         && is_shown(&one.p1, &other.p1)
@@ -376,13 +375,15 @@ fn fold_all(rt: &impl Abort, alloc: Global, logs: &[AppLog]) {
 
 #[test]
 fn the_logs_are_what_the_applications_answer_alone(rt: HostRuntime) {
-    let (tee, passes) = begun(&rt, rt.alloc());
+    let alloc = rt.alloc();
+    let hosts = sample_hosts(alloc).expect(&rt, "hosts");
+    let (tee, passes) = begun(&rt, alloc, hosts, SEED);
     assert!(&rt; passes.len() == PASSES);
-    let (mut vault, mut twin, rest) = two_of(&tee, passes);
-    work(&rt, rt.alloc(), &tee, &mut vault, &mut twin);
+    let (vault, twin, rest) = two_of(&tee, passes);
+    let (vault, twin) = work_beside(&rt, alloc, &tee, vault, twin);
     let passes = put_back(&rt, &tee, rest, vault, twin);
     let (logs, board): (Vec<AppLog>, MemBoard) = tee.finish(passes);
     drop(board);
-    fold_all(&rt, rt.alloc(), logs.as_slice());
+    fold_all(&rt, alloc, logs.as_slice());
     drop(logs);
 }

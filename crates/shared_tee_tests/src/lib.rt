@@ -5,6 +5,8 @@
 mod calls;
 #[cfg(test)]
 mod folded;
+#[cfg(test)]
+mod held;
 pub mod pair;
 #[cfg(test)]
 mod shared;

@@ -1,4 +1,4 @@
-//! The applications `vault` and `keep`, and what is asked of them with a pass.
+//! Applications over a board in memory, and what is asked of them with a pass.
 
 ghost use Rattle.std.specs.Prelude.{◌<◌, ◌^◌, IfOk};
 ghost use Rattle.app_api.specs.Hosts.{HostsFit};
@@ -6,21 +6,21 @@ ghost use Rattle.shared_tee.specs.Ending.{ArePasses};
 ghost use Rattle.shared_tee.specs.Passes.{IsPassOf};
 
 use crate::pair::pair_of;
-use app_api::{Host, Param, Params, Properties, hosts_fit};
+use app_api::{Application, Host, Param, Params, Properties, hosts_fit};
 use boards::MemBoard;
 use epoch::{OpenAnswer, Unopened};
-use sample_apps::Store;
 use shared_parts::{Posted, SharedAnswer};
-use shared_tee::{Pass, SharedTee};
+use shared_tee::{Pass, SharedTee, SharedTeeOver};
 use std::alloc::Global;
 use std::process::Abort;
+use store_api::Volume;
 use tee_base::{Bytes, Code};
 use tee_core::VolumeInUse;
 use uuid::Uuid;
 
-pub type Runtime = SharedTee<MemBoard, Store>;
+pub type Runtime<A> = SharedTee<MemBoard, A>;
 
-pub type OnePass = Pass<VolumeInUse<MemBoard>, Store>;
+pub type OnePass<A> = Pass<VolumeInUse<MemBoard>, A>;
 
 const KEY: [u8; 32] = [7; 32];
 
@@ -30,11 +30,17 @@ const BLOCKS: u64 = 43_720;
 const PASSES: usize = 16;
 
 /// The bytes in memory of their own.
-fn bytes(rt: &impl Abort, alloc: Global, from: &[u8]) -> Bytes {
+pub fn bytes(rt: &impl Abort, alloc: Global, from: &[u8]) -> Bytes {
     Bytes::from_slice(alloc, from).expect(rt, "bytes")
 }
 
-fn host(rt: &impl Abort, alloc: Global, name: &[u8], id: u128) -> Host<Store> {
+fn host<A: Application>(
+    rt: &impl Abort,
+    alloc: Global,
+    name: &[u8],
+    id: u128,
+    template: A,
+) -> Host<A> {
     Host {
         name: bytes(rt, alloc, name),
         id: Uuid::from_u128(id),
@@ -43,29 +49,35 @@ fn host(rt: &impl Abort, alloc: Global, name: &[u8], id: u128) -> Host<Store> {
             multi: true,
             keep: true,
         },
-        template: Store::Idle,
+        template,
     }
 }
 
-fn hosts(rt: &impl Abort, alloc: Global) -> Vec<Host<Store>>
+/// The hosts `vault` and `keep`.
+fn hosts<A: Application>(rt: &impl Abort, alloc: Global, vault: A, keep: A) -> Vec<Host<A>>
     ensures { HostsFit result.items }
 {
-    let vault = host(rt, alloc, b"vault", 1);
-    let keep = host(rt, alloc, b"keep", 2);
-    let hosts = Vec::from_array(alloc, [vault, keep]).expect(rt, "hosts");
+    let mut hosts = Vec::new(alloc);
+    hosts
+        .push(host(rt, alloc, b"vault", 1, vault))
+        .expect(rt, "room");
+    hosts
+        .push(host(rt, alloc, b"keep", 2, keep))
+        .expect(rt, "room");
     assert!(rt; hosts_fit(hosts.as_slice()));
     hosts
 }
 
-fn begun(
+fn opened<A: Application>(
     alloc: Global,
     board: MemBoard,
-    hosts: Vec<Host<Store>>,
-) -> Result<(Runtime, Vec<OnePass>), OpenAnswer>
+    hosts: Vec<Host<A>>,
+    seed: [u8; 32],
+) -> Result<(Runtime<A>, Vec<OnePass<A>>), OpenAnswer>
     requires { HostsFit hosts.items }
     ensures { IfOk result (λ made. ArePasses made.0 made.1.items) }
 {
-    match SharedTee::new(alloc, board, hosts, [0; 32]) {
+    match SharedTee::new(alloc, board, hosts, seed) {
         Ok(made) => Ok(made),
         Err(unopened) => {
             let Unopened { board, why } = unopened;
@@ -75,37 +87,52 @@ fn begun(
     }
 }
 
-/// A runtime over a blank board, with the passes at two places. Those of `vault` are the first eight.
-pub fn with_two(
+/// Applications over a blank board, and all passes.
+pub fn begun<A: Application>(
     rt: &impl Abort,
     alloc: Global,
+    hosts: Vec<Host<A>>,
+    seed: [u8; 32],
+) -> (Runtime<A>, Vec<OnePass<A>>)
+    requires { HostsFit hosts.items }
+    ensures { ArePasses result.0 result.1.items }
+{
+    let board = MemBoard::blank(alloc, KEY, BLOCKS).expect(rt, "a board");
+    opened(alloc, board, hosts, seed).expect(rt, "a beginning")
+}
+
+/// `vault` and `keep` with the passes at two places. Those of `vault` are the first eight.
+pub fn with_two<A: Application>(
+    rt: &impl Abort,
+    alloc: Global,
+    templates: (A, A),
     first: usize,
     second: usize,
-) -> (Runtime, OnePass, OnePass)
+) -> (Runtime<A>, OnePass<A>, OnePass<A>)
     requires order { first < second }
     requires there { second < 16 }
     ensures first { IsPassOf result.0 result.1 }
     ensures second { IsPassOf result.0 result.2 }
 {
-    let board = MemBoard::blank(alloc, KEY, BLOCKS).expect(rt, "a board");
-    let (tee, passes) = begun(alloc, board, hosts(rt, alloc)).expect(rt, "a beginning");
+    let (vault, keep) = templates;
+    let (tee, passes) = begun(rt, alloc, hosts(rt, alloc, vault, keep), [0; 32]);
     assert!(rt; passes.len() == PASSES);
     let (one, other) = pair_of(passes, first, second);
     (tee, one, other)
 }
 
 /// The pass may make a call.
-fn check_few(rt: &impl Abort, pass: &OnePass)
+pub fn check_few<V: Volume, A: Application>(rt: &impl Abort, pass: &Pass<V, A>)
     ensures { pass.now.calls < 2 ^ 60 }
 {
     assert!(rt; pass.calls() < 1 << 60);
 }
 
 /// Opens a session with the label 1.
-pub fn open(
+pub fn open<V: Volume, A: Application>(
     rt: &impl Abort,
-    tee: &Runtime,
-    pass: &mut OnePass,
+    tee: &SharedTeeOver<V, A>,
+    pass: &mut Pass<V, A>,
     params: &Params,
 ) -> Result<Posted, SharedAnswer>
     requires { IsPassOf tee.now pass.old }
@@ -116,7 +143,12 @@ pub fn open(
 }
 
 /// A turn of the instance, which has to be made.
-pub fn turn(rt: &impl Abort, tee: &Runtime, pass: &mut OnePass, instance: u8)
+pub fn turn<V: Volume, A: Application>(
+    rt: &impl Abort,
+    tee: &SharedTeeOver<V, A>,
+    pass: &mut Pass<V, A>,
+    instance: u8,
+)
     requires { IsPassOf tee.now pass.old }
     ensures { IsPassOf tee.now pass.new }
 {
@@ -126,7 +158,12 @@ pub fn turn(rt: &impl Abort, tee: &Runtime, pass: &mut OnePass, instance: u8)
 }
 
 /// Whether the log has the reply to the operation by now. It has to be a success.
-pub fn is_answered(rt: &impl Abort, tee: &Runtime, pass: &mut OnePass, op: u64) -> bool
+pub fn is_answered<V: Volume, A: Application>(
+    rt: &impl Abort,
+    tee: &SharedTeeOver<V, A>,
+    pass: &mut Pass<V, A>,
+    op: u64,
+) -> bool
     requires { IsPassOf tee.now pass.old }
     ensures { IsPassOf tee.now pass.new }
 {

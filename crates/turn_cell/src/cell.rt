@@ -12,6 +12,7 @@ use crate::view::SeatView;
 use atomic_table::{Seat, Table};
 use std::alloc::Global;
 use std::snapshot::Snapshot;
+use std::sync::atomic::AtomicU64;
 
 /// Memory ran out.
 #[derive(Clone, Copy, Debug, PartialEq, Eq)]
@@ -39,6 +40,8 @@ pub struct Busy {
 pub struct TurnCell<T: Parted> {
     table: Table<Option<T>, SeatView<T::Part, T::Entry>, Snapshot<T>, TurnRule<T>, Global>,
     name: u32,
+    /// How many seats are about to sleep, so that nobody is woken where nobody sleeps.
+    sleepers: AtomicU64,
     ghost shaped: { (table.shared.table_id.words ≡ 1) × (table.shared.table_id.slots ≡ 1) },
 }
 

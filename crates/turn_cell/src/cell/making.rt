@@ -9,6 +9,7 @@ use crate::parted::Parted;
 use atomic_table::{Refused, Table};
 use std::alloc::Global;
 use std::snapshot::Snapshot;
+use std::sync::atomic::AtomicU64;
 
 impl<T: Parted> TurnCell<T> {
     /// A cell of this name with the value in it, and a seat that owns all parts.
@@ -35,7 +36,15 @@ impl<T: Parted> TurnCell<T> {
         };
         slots.push_reserved(Some(value));
         match Table::new(alloc, &[0], slots, &about) {
-            Ok((table, seat)) => Ok((TurnCell { table, name }, RangeSeat { seat, number: 0 })),
+            Ok((table, seat)) => {
+                let sleepers = AtomicU64::new(0);
+                let cell = TurnCell {
+                    table,
+                    name,
+                    sleepers,
+                };
+                Ok((cell, RangeSeat { seat, number: 0 }))
+            }
             Err(Refused { mut slots }) => {
                 let Some(Some(value)) = slots.pop() else {
                     unreachable!()
@@ -58,7 +67,7 @@ impl<T: Parted> TurnCell<T> {
         ensures original { (view seat).original ≡ original_parts T.parts_of self }
         ensures trail { IsPrefix (view seat).trail (T.trail_of result) }
     {
-        let TurnCell { table, name: _ } = self;
+        let TurnCell { table, .. } = self;
         let RangeSeat { seat, number: _ } = seat;
         let mut closed = table.close_with(seat);
         let Some(value) = closed.take(0) else {

@@ -9,6 +9,7 @@ use super::{Busy, CellSeat, RangeSeat, TableSeat, TurnCell};
 use crate::parted::Parted;
 use crate::plays::{Announce, Await, Look, Release, Try};
 use std::sync::Wait;
+use std::sync::atomic::Ordering;
 
 impl<T: Parted> TurnCell<T> {
     /// Takes the value. It waits while the value is out, and counts no miss: its tries are counted apart.
@@ -27,10 +28,18 @@ impl<T: Parted> TurnCell<T> {
             match self.attempt(seat) {
                 Ok(value) => return value,
                 // A seat's number plus one fits the 32 bits that are watched, as a value has fewer than 2^32 parts.
-                Err(word) => self.table.shared.park(rt, 0, (word % (1 << 32)) as u32),
+                Err(word) => self.sleep(rt, (word % (1 << 32)) as u32),
             }
         }
         unreachable!()
+    }
+
+    // Sleeps while the word is this one. Whoever gives the value back after it was counted here finds it, and wakes it; whoever
+    // did so before has changed the word.
+    fn sleep<R: Wait>(&self, rt: &R, word: u32) {
+        self.sleepers.fetch_add(1, Ordering::SeqCst);
+        self.table.shared.park(rt, 0, word);
+        self.sleepers.fetch_sub(1, Ordering::SeqCst);
     }
 
     // Tries once for a seat that waits, and answers the word where the value is out.
@@ -119,7 +128,7 @@ impl<T: Parted> TurnCell<T> {
         value
     }
 
-    /// Gives the value back and wakes one seat that waits. The seat's own parts may be other ones, and the trail may have
+    /// Gives the value back and wakes one seat that waits, if there is one. The seat's own parts may be other ones, and the trail may have
     /// become longer.
     pub fn give(&self, seat: &mut CellSeat<T>, value: T)
         requires own { IsSeatOf self.now seat.old }
@@ -134,7 +143,9 @@ impl<T: Parted> TurnCell<T> {
         let own_word = seat.own_word();
         self.slot_home(&mut seat.seat, own_word, value);
         self.release(&mut seat.seat);
-        self.table.shared.wake_one(0);
+        if self.sleepers.load(Ordering::SeqCst) != 0 {
+            self.table.shared.wake_one(0);
+        }
     }
 
     // Announces the value, and puts it into the slot.

@@ -4,7 +4,8 @@ use contract.Lifetimes.{Lfts}
 use Rattle.race_workers.proofs.worker.+workers.Given.{Over}
 use Rattle.race_workers.proofs.worker.+workers.Lts-run_all as lts
 use denote.Param.Send.{IsSend, IsSync, sendable, param_send}
-use Rattle.race_workers.proofs.Crosses.{Worker-field, Worker-send, SharedTeeOver-sync, Line-sync}
+use Rattle.shared_tee.proofs.Crosses.{SharedTeeOver-sync}
+use Rattle.race_workers.proofs.Crosses.{Line-sync, Worker-field, Worker-send}
 use Rattle.race_workers.specs.Workers.{AllHaveRun, AllMayRun}
 use Rattle.race_workers.proofs.RunLemmas.{all_have_run, last_may, others_may}
 use Rattle.race_workers.proofs.worker.+workers.Goals as goal

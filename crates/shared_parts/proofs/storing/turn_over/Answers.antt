@@ -8,32 +8,32 @@ push-requires-clause-room g c = room_for 3 c.args.recorded.now.side c.args.recor
 
 pub push-requires-clause-replies : goal.push-requires-clause-replies
 push-requires-clause-replies g c =
-    replies_for 3 c.args.recorded.now.side c.args.recorded.now.log c.turn-made.result.replies c.requires.reserved c.bounds.ensures
+    replies_for 3 c.args.recorded.now.side c.args.recorded.now.log c.turn_into-kind.new.replies c.requires.reserved c.bounds.ensures
 
 pub push-requires-clause-bytes : goal.push-requires-clause-bytes
 push-requires-clause-bytes g c =
-    bytes_none c.turn-made.result.kind c.args.instance c.args.client c.turn_event.result c.args.recorded.now.log.entries (c.turn_event.ensures c.args.client)
+    bytes_none c.turn_into-kind.result c.args.instance c.args.client c.turn_event.result c.args.recorded.now.log.entries (c.turn_event.ensures c.args.client)
 
 pub returns : goal.returns
 returns g c =
     let dir = c.of-dir.result in
-    let status = c.turn-made.ensures.turn.status.foundation in
+    let status = c.turn_into-kind.ensures.turn.status.foundation in
     record {
-      replies = c.turn-made.result.replies;
+      replies = c.turn_into-kind.new.replies;
       few = c.bounds.ensures;
       turn = record {
         dir_before = dir;
-        dir_after = c.turn-made.new.store;
+        dir_after = c.turn_into-kind.new.store;
         over_old = record { same_volume = c.of-dir.ensures.volume; same_region = c.of-dir.ensures.region; same_kept = c.of-dir.ensures.kept ∙ c.take.ensures.value };
         over_new = record {
-          same_volume = search (rules, same_reference g.V.Volume.keeper dir.region c.turn-made.new.store.region status);
-          same_region = search (rules, same_number g.V.Volume.keeper dir.region c.turn-made.new.store.region status);
+          same_volume = search (rules, same_reference g.V.Volume.keeper dir.region c.turn_into-kind.new.store.region status);
+          same_region = search (rules, same_number g.V.Volume.keeper dir.region c.turn_into-kind.new.store.region status);
           same_kept = sym c.into_volume-volume.ensures.kept;
         };
-        turn = c.turn-made.ensures.turn;
+        turn = c.turn_into-kind.ensures.turn;
       };
       logged = record {
-        more = entry_of_turn c.turn-made.result.kind c.args.instance c.args.client c.turn_event.result c.turn-made.result.replies c.args.recorded.now.log.entries
+        more = entry_of_turn c.turn_into-kind.result c.args.instance c.args.client c.turn_event.result c.turn_into-kind.new.replies c.args.recorded.now.log.entries
             c.push.new.self.entries (c.turn_event.ensures c.args.client) c.push.ensures.more;
         room = c.push.ensures.room;
         reply_room = c.push.ensures.reply_room;

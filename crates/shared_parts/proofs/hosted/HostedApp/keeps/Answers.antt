@@ -8,4 +8,4 @@ pub returns : goal.returns
 returns g c =
     let h = c.self.inside in
     subst (λ (x : HostedView g.row.V.Denot g.row.A.Denot). KeepsHosted g.V.Volume.keeper g.A.Application.behaviour x) c.self.view_is
-    (hosted_kept g.V.Volume.keeper g.A.Application.behaviour h.app (cell_id_of h.seat) h.start.value h.recorded.side h.recorded.log (known h.seat) h.misses c.self.invariant)
+    (hosted_kept g.V.Volume.keeper g.A.Application.behaviour h.app (cell_id_of h.seat) h.start.value h.recorded.value.side h.recorded.value.log (known h.seat) h.misses c.self.invariant)

@@ -6,4 +6,4 @@ use Rattle.shared_parts.proofs.hosted.HostedAppParted.parts.Goals as goal
 pub returns : goal.returns
 returns g c =
     subst (λ (x : HostedView g.row.V.Denot g.row.A.Denot). 8 ≡ length (parts_for x.log 0 x.misses)) c.self.view_is
-    (eight_parts c.self.inside.recorded.log.entries c.self.inside.misses c.self.invariant.misses_are.eight)
+    (eight_parts c.self.inside.recorded.value.log.entries c.self.inside.misses c.self.invariant.misses_are.eight)
