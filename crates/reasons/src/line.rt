@@ -3,6 +3,7 @@
 use crate::grammar::{Misfit, misfit_of};
 use crate::wanted::{Wanted, write_names};
 use app_api::Host;
+use script::Dialect;
 use std::alloc::{AllocError, Global};
 use tee_base::limits;
 
@@ -42,6 +43,8 @@ enum LineFault {
     Control { place: usize, byte: u8 },
     /// A word is missing, or can't stand at its place.
     Word(Misfit),
+    /// It is about the board, of which this caller takes no lines.
+    Board,
     /// All memory that is filled up to this line is too much.
     FilledTooMuch,
 }
@@ -92,17 +95,24 @@ fn control_in(words: &[&[u8]]) -> Option<LineFault> {
     None
 }
 
+/// Whether the line is about the board, and the caller takes no such lines.
+fn is_refused(words: &[&[u8]], dialect: Dialect) -> bool {
+    dialect == Dialect::WithoutBoard && matches!(words, [b"board", ..])
+}
+
 /// What is wrong with the words of a line.
 fn fault_of_words<A>(
     alloc: Global,
     hosts: &[Host<A>],
     words: &[&[u8]],
+    dialect: Dialect,
 ) -> Result<LineFault, AllocError> {
     match words {
         [] => Ok(LineFault::OnlySpaces),
         [[b'#', ..], ..] => Ok(LineFault::SpaceBeforeComment),
         _ => match control_in(words) {
             Some(fault) => Ok(fault),
+            None if is_refused(words, dialect) => Ok(LineFault::Board),
             None => match misfit_of(alloc, hosts, words)? {
                 Some(found) => Ok(LineFault::Word(found)),
                 None => Ok(LineFault::FilledTooMuch),
@@ -116,6 +126,7 @@ fn fault_of<A>(
     alloc: Global,
     hosts: &[Host<A>],
     piece: Piece<'_>,
+    dialect: Dialect,
 ) -> Result<LineFault, AllocError> {
     if !piece.is_ended && matches!(piece.line, [.., b'\r']) {
         return Ok(LineFault::LoneReturn);
@@ -124,7 +135,7 @@ fn fault_of<A>(
         Some(column) => Ok(LineFault::NotAscii(column)),
         None => {
             let words = words_of(alloc, piece.line)?;
-            fault_of_words(alloc, hosts, words.as_slice())
+            fault_of_words(alloc, hosts, words.as_slice(), dialect)
         }
     }
 }
@@ -183,6 +194,7 @@ fn write_fault<A>(
         LineFault::SpaceBeforeComment => {
             text.push_str(": a space before #; a comment has # as its first character")
         }
+        LineFault::Board => text.push_str(": a race takes no line about the board"),
         LineFault::FilledTooMuch => {
             write!(text, ": all mf up to here fill more than {most} bytes")
         }
@@ -205,17 +217,18 @@ fn write_fault<A>(
 }
 
 /// Why the line of this number is no script line for these hosts, if the text has so many lines. It is asked of the line that a
-/// reading of the text named.
+/// reading of the text named, for a caller that takes this of the grammar.
 pub fn line_reason<A>(
     alloc: Global,
     text: &[u8],
     number: u64,
     hosts: &[Host<A>],
+    dialect: Dialect,
 ) -> Result<Option<String>, AllocError> {
     let Some(piece) = piece_of(text, number) else {
         return Ok(None);
     };
-    let fault = fault_of(alloc, hosts, piece)?;
+    let fault = fault_of(alloc, hosts, piece, dialect)?;
     let mut reason = format!(in alloc; "line {number}")?;
     write_fault(&mut reason, alloc, hosts, piece.line, fault)?;
     Ok(Some(reason))

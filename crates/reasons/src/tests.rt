@@ -2,6 +2,7 @@
 
 use crate::line_reason;
 use app_api::{Host, Properties};
+use script::Dialect;
 use std::alloc::Global;
 use std::process::Abort;
 use tee_base::Bytes;
@@ -200,6 +201,33 @@ const LINES: [(&str, u64, &str); 39] = [
     ),
 ];
 
+/// Of a race, which takes no line about the board.
+const RACE_LINES: [(&str, u64, &str); 2] = [
+    (
+        "vault open 1\nboard power 0\n",
+        2,
+        "line 2: a race takes no line about the board",
+    ),
+    (
+        "vault opne 1\n",
+        1,
+        "line 1, word 2: \"opne\": open, invoke, close, post, turn or cancel",
+    ),
+];
+
+/// Compares what is said of a line with the row.
+fn check(
+    rt: &impl Abort,
+    alloc: Global,
+    hosts: &[Host<()>],
+    dialect: Dialect,
+    (text, number, wanted): (&str, u64, &str),
+) {
+    let said = line_reason(alloc, text.as_bytes(), number, hosts, dialect).expect(rt, "memory");
+    let said = said.expect(rt, "a reason");
+    assert!(rt; said.as_str() == wanted, "{said}");
+}
+
 #[test]
 fn lines_have_reasons(rt: HostRuntime) {
     let alloc = rt.alloc();
@@ -218,8 +246,15 @@ fn lines_have_reasons(rt: HostRuntime) {
         ),
     ];
     for (text, number, wanted) in &LINES {
-        let said = line_reason(alloc, text.as_bytes(), *number, &hosts).expect(&rt, "memory");
-        let said = said.expect(&rt, "a reason");
-        assert!(rt; said.as_str() == *wanted, "{said}");
+        check(&rt, alloc, &hosts, Dialect::Whole, (text, *number, wanted));
+    }
+    for (text, number, wanted) in &RACE_LINES {
+        check(
+            &rt,
+            alloc,
+            &hosts,
+            Dialect::WithoutBoard,
+            (text, *number, wanted),
+        );
     }
 }

@@ -14,6 +14,8 @@
 mod asked;
 mod shared;
 mod single;
+#[cfg(test)]
+mod threads;
 
 use anyhow::Result;
 use std::alloc::Global;

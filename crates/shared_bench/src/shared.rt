@@ -5,26 +5,31 @@ ghost use Rattle.shared_tee.specs.Ending.{ArePasses};
 ghost use Rattle.shared_tee.specs.Passes.{IsPassOf};
 
 use crate::asked::{ADD, ADDING, INSTANCE, LABEL, OPENING, Refused, SEED, board, one};
-use app_api::Params;
+use app_api::{Application, Params};
 use boards::MemBoard;
 use sample_apps::{Sample, sample_hosts};
 use shared_parts::{Posted, SharedAnswer};
-use shared_tee::{Pass, SharedTee};
+use shared_tee::{Pass, SharedTee, SharedTeeOver};
+use shared_tee_tests::pair::pair_of;
 use std::alloc::Global;
+use store_api::Volume;
 use tee_core::{Unopened, VolumeInUse};
 
-type Runtime = SharedTee<MemBoard, Sample>;
+pub type Runtime = SharedTee<MemBoard, Sample>;
 
-type OnePass = Pass<VolumeInUse<MemBoard>, Sample>;
+pub type OnePass = Pass<VolumeInUse<MemBoard>, Sample>;
 
 /// The place of the pass of the first client of `keep`, behind eight of each of two applications.
 const PASS: usize = 16;
+
+/// The place of the pass of the first client of `tally`, which asks the storage for nothing either.
+const OTHER: usize = 24;
 
 /// How many calls no run makes.
 const MANY: u64 = 1 << 40;
 
 /// The sample applications over a blank board, with all passes.
-fn begun(alloc: Global) -> Result<(Runtime, Vec<OnePass>), Refused>
+pub fn begun(alloc: Global) -> Result<(Runtime, Vec<OnePass>), Refused>
     ensures { IfOk result (λ made. ArePasses made.0 made.1.items) }
 {
     let (Ok(board), Ok(hosts)) = (board(alloc), sample_hosts(alloc)) else {
@@ -40,20 +45,20 @@ fn begun(alloc: Global) -> Result<(Runtime, Vec<OnePass>), Refused>
     }
 }
 
-/// The pass at its place. The others are dropped.
-fn pass_of(tee: &Runtime, passes: Vec<OnePass>) -> Result<OnePass, Refused>
+/// The passes at the two places. The others are dropped.
+pub fn passes_of(tee: &Runtime, passes: Vec<OnePass>) -> Result<(OnePass, OnePass), Refused>
     requires { ArePasses tee.now passes.items }
-    ensures { IfOk result (λ pass. IsPassOf tee.now pass) }
+    ensures one { IfOk result (λ found. IsPassOf tee.now found.0) }
+    ensures other { IfOk result (λ found. IsPassOf tee.now found.1) }
 {
-    let mut rest = passes;
-    if rest.len() <= PASS {
+    if passes.len() <= OTHER {
         return Err(Refused);
     }
-    Ok(rest.remove(PASS))
+    Ok(pair_of(passes, PASS, OTHER))
 }
 
 /// The pass may make a call.
-fn check_few(pass: &OnePass) -> Result<(), Refused>
+fn check_few<V: Volume, A: Application>(pass: &Pass<V, A>) -> Result<(), Refused>
     ensures { IfOk result (λ done. pass.now.calls < 2 ^ 60) }
 {
     if pass.calls() >= MANY {
@@ -63,7 +68,10 @@ fn check_few(pass: &OnePass) -> Result<(), Refused>
 }
 
 /// A turn of the instance.
-fn turn(tee: &Runtime, pass: &mut OnePass) -> Result<(), Refused>
+fn turn<V: Volume, A: Application>(
+    tee: &SharedTeeOver<V, A>,
+    pass: &mut Pass<V, A>,
+) -> Result<(), Refused>
     requires { IsPassOf tee.now pass.old }
     ensures { IsPassOf tee.now pass.new }
 {
@@ -75,9 +83,9 @@ fn turn(tee: &Runtime, pass: &mut OnePass) -> Result<(), Refused>
 }
 
 /// The turns behind a call. The number of its operation.
-fn answer(
-    tee: &Runtime,
-    pass: &mut OnePass,
+fn answer<V: Volume, A: Application>(
+    tee: &SharedTeeOver<V, A>,
+    pass: &mut Pass<V, A>,
     posted: Result<Posted, SharedAnswer>,
     turns: u32,
 ) -> Result<u64, Refused>
@@ -94,7 +102,10 @@ fn answer(
 }
 
 /// The session. The number of its operation.
-fn open(tee: &Runtime, pass: &mut OnePass) -> Result<u64, Refused>
+fn open<V: Volume, A: Application>(
+    tee: &SharedTeeOver<V, A>,
+    pass: &mut Pass<V, A>,
+) -> Result<u64, Refused>
     requires { IsPassOf tee.now pass.old }
     ensures { IsPassOf tee.now pass.new }
 {
@@ -104,7 +115,10 @@ fn open(tee: &Runtime, pass: &mut OnePass) -> Result<u64, Refused>
 }
 
 /// A command. The number of its operation.
-fn add(tee: &Runtime, pass: &mut OnePass) -> Result<u64, Refused>
+fn add<V: Volume, A: Application>(
+    tee: &SharedTeeOver<V, A>,
+    pass: &mut Pass<V, A>,
+) -> Result<u64, Refused>
     requires { IsPassOf tee.now pass.old }
     ensures { IsPassOf tee.now pass.new }
 {
@@ -114,7 +128,11 @@ fn add(tee: &Runtime, pass: &mut OnePass) -> Result<u64, Refused>
 }
 
 /// The operation is answered.
-fn check_answer(tee: &Runtime, pass: &mut OnePass, op: u64) -> Result<(), Refused>
+fn check_answer<V: Volume, A: Application>(
+    tee: &SharedTeeOver<V, A>,
+    pass: &mut Pass<V, A>,
+    op: u64,
+) -> Result<(), Refused>
     requires { IsPassOf tee.now pass.old }
 {
     check_few(pass)?;
@@ -125,7 +143,11 @@ fn check_answer(tee: &Runtime, pass: &mut OnePass, op: u64) -> Result<(), Refuse
 }
 
 /// A session with so many commands, one after another. The number of the last operation, which is answered.
-fn ask_often(tee: &Runtime, pass: &mut OnePass, calls: u32) -> Result<u64, Refused>
+fn ask_often<V: Volume, A: Application>(
+    tee: &SharedTeeOver<V, A>,
+    pass: &mut Pass<V, A>,
+    calls: u32,
+) -> Result<u64, Refused>
     requires { IsPassOf tee.now pass.old }
 {
     let mut op = open(tee, pass)?;
@@ -136,9 +158,20 @@ fn ask_often(tee: &Runtime, pass: &mut OnePass, calls: u32) -> Result<u64, Refus
     Ok(op)
 }
 
+/// A session with so many commands, through a pass that is used up.
+pub fn ask_with<V: Volume, A: Application>(
+    tee: &SharedTeeOver<V, A>,
+    mut pass: Pass<V, A>,
+    calls: u32,
+) -> Result<u64, Refused>
+    requires { IsPassOf tee.now pass }
+{
+    ask_often(tee, &mut pass, calls)
+}
+
 /// A session with so many commands. How many operations there are, of which the last is answered.
 pub fn run(alloc: Global, calls: u32) -> Result<u64, Refused> {
     let (tee, passes) = begun(alloc)?;
-    let mut pass = pass_of(&tee, passes)?;
-    ask_often(&tee, &mut pass, calls)
+    let (one, _other) = passes_of(&tee, passes)?;
+    ask_with(&tee, one, calls)
 }

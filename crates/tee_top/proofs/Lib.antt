@@ -9,6 +9,7 @@ pub mod Known
 pub mod Layers
 pub mod Leaves
 pub mod LinesFor
+pub mod LogsWritten
 pub mod Losses
 pub mod MarkLines
 pub mod Meeting
@@ -17,6 +18,7 @@ pub mod Opened
 pub mod Parts
 pub mod PowerLines
 pub mod Powers
+pub mod Raced
 pub mod Refusals
 pub mod Served
 pub mod Single

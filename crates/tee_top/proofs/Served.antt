@@ -7,12 +7,14 @@ use Rattle.epoch.specs.Forms.{Form}
 use Rattle.epoch.specs.Mounts.{IsKeptFromOpening, IsRefusalOver, IsRefusedNow}
 use Rattle.tee_base.specs.Words.{Image}
 use Rattle.tee_top.specs.Boards.{IsRefusedAt, IsRefusedByRule, IsRuleAnswer}
-use Rattle.tee_top.specs.Runs.{IsStopped, IsUnopened, ended_as, refusal_of}
+use Rattle.tee_top.specs.Reading.{IsUnopened}
+use Rattle.tee_top.specs.Runs.{IsStopped, ended_as}
+use Rattle.tee_top.specs.Statuses.{refusal_of}
 use Rattle.tee_top.specs.Stops.{IfRefused, UnlessRefused}
 use Rattle.tee_top.specs.declared.lines.Stop.{Stop}
 use Rattle.tee_top.specs.declared.lines.Stop.TheVariants as stops
 use Rattle.tee_top.specs.declared.status.Status.{Status}
-use Rattle.tee_top.specs.declared.status.Status.TheVariants.{Done, BadWords, BadLine, TooLong, StoreRefused, NoMemory, ReadFault, WriteFault, BoardFault}
+use Rattle.tee_top.specs.declared.status.Status.TheVariants.{Done, BadWords, BadLine, TooLong, StoreRefused, LogFull, NoMemory, ReadFault, WriteFault, BoardFault}
 
 -- ---- kinds of status
 
@@ -22,6 +24,7 @@ IsDone BadWords = ⊥
 IsDone (BadLine n) = ⊥
 IsDone TooLong = ⊥
 IsDone (StoreRefused why) = ⊥
+IsDone (LogFull app) = ⊥
 IsDone NoMemory = ⊥
 IsDone ReadFault = ⊥
 IsDone WriteFault = ⊥
@@ -33,6 +36,7 @@ IsRefused BadWords = ⊥
 IsRefused (BadLine n) = ⊥
 IsRefused TooLong = ⊥
 IsRefused (StoreRefused why) = Unit {0}
+IsRefused (LogFull app) = ⊥
 IsRefused NoMemory = ⊥
 IsRefused ReadFault = ⊥
 IsRefused WriteFault = ⊥
@@ -44,6 +48,7 @@ IsBoardFault BadWords = ⊥
 IsBoardFault (BadLine n) = ⊥
 IsBoardFault TooLong = ⊥
 IsBoardFault (StoreRefused why) = ⊥
+IsBoardFault (LogFull app) = ⊥
 IsBoardFault NoMemory = ⊥
 IsBoardFault ReadFault = ⊥
 IsBoardFault WriteFault = ⊥

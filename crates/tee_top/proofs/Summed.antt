@@ -25,7 +25,7 @@ use Rattle.tee_top.specs.Isolation.{HasNoLine}
 use Rattle.tee_top.specs.Runs.{IsServed, IsStopped, RunsFront, RunsToPower, RunsWhole, events_by}
 use Rattle.tee_top.specs.Transcript.{Weather, after_events, events_of, transcript}
 use Rattle.tee_top.specs.declared.status.Status.{Status}
-use Rattle.tee_top.specs.declared.status.Status.TheVariants.{Done, BadWords, BadLine, TooLong, StoreRefused, NoMemory, ReadFault, WriteFault, BoardFault}
+use Rattle.tee_top.specs.declared.status.Status.TheVariants.{Done, BadWords, BadLine, TooLong, StoreRefused, LogFull, NoMemory, ReadFault, WriteFault, BoardFault}
 use Rattle.tee_top.proofs.Calm.{calm_weather, no_power, none_made}
 use Rattle.tee_top.proofs.Ended.{served_told}
 use Rattle.tee_top.proofs.Powers.{fails_rose}
@@ -39,6 +39,7 @@ written_served BadWords text before after Same h = h
 written_served (BadLine n) text before after Same h = h
 written_served TooLong text before after Same h = h
 written_served (StoreRefused why) text before after Same h = tt
+written_served (LogFull app) text before after Same h = h
 written_served NoMemory text before after Same h = tt
 written_served ReadFault text before after Same h = h
 written_served WriteFault text before after Same h = tt
@@ -50,6 +51,7 @@ unsummed_same BadWords text before after Same h is = absurd h
 unsummed_same (BadLine n) text before after Same h is = absurd h
 unsummed_same TooLong text before after Same h is = absurd h
 unsummed_same (StoreRefused why) text before after Same h is = absurd h
+unsummed_same (LogFull app) text before after Same h is = absurd h
 unsummed_same NoMemory text before after Same h is = h
 unsummed_same ReadFault text before after Same h is = absurd h
 unsummed_same WriteFault text before after Same h is = absurd is
@@ -61,6 +63,7 @@ broken_served BadWords h = h
 broken_served (BadLine n) h = h
 broken_served TooLong h = h
 broken_served (StoreRefused why) h = tt
+broken_served (LogFull app) h = h
 broken_served NoMemory h = tt
 broken_served ReadFault h = h
 broken_served WriteFault h = tt
@@ -73,6 +76,7 @@ broken_ways BadWords h = absurd h
 broken_ways (BadLine n) h = absurd h
 broken_ways TooLong h = absurd h
 broken_ways (StoreRefused why) h = absurd h
+broken_ways (LogFull app) h = absurd h
 broken_ways NoMemory h = inl tt
 broken_ways ReadFault h = absurd h
 broken_ways WriteFault h = absurd h

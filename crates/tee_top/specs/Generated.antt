@@ -24,7 +24,7 @@ use Rattle.tee_top.specs.Boards.{BeginsWith, HasOrders, IsRefusedAt, IsRefusedBy
 use Rattle.tee_top.specs.Runs.{AreRunWords}
 use Rattle.tee_top.specs.Transcript.{Weather, WorldEvent, after_events, events_of, transcript}
 use Rattle.tee_top.specs.declared.status.Status.{Status}
-use Rattle.tee_top.specs.declared.status.Status.TheVariants.{Done, BadWords, BadLine, TooLong, StoreRefused, NoMemory, ReadFault, WriteFault, BoardFault}
+use Rattle.tee_top.specs.declared.status.Status.TheVariants.{Done, BadWords, BadLine, TooLong, StoreRefused, LogFull, NoMemory, ReadFault, WriteFault, BoardFault}
 use Rattle.tee_base.specs.Words.{Counter, Text}
 
 -- the words that ask for the workload of a number, which is written as a script has numbers
@@ -47,6 +47,7 @@ IsUnsummed BadWords = Unit {0}
 IsUnsummed (BadLine n) = Unit {0}
 IsUnsummed TooLong = Unit {0}
 IsUnsummed (StoreRefused why) = Unit {0}
+IsUnsummed (LogFull app) = Unit {0}
 IsUnsummed NoMemory = Unit {0}
 IsUnsummed ReadFault = Unit {0}
 IsUnsummed WriteFault = ⊥
@@ -59,6 +60,7 @@ IsBroken BadWords = ⊥
 IsBroken (BadLine n) = ⊥
 IsBroken TooLong = ⊥
 IsBroken (StoreRefused why) = ⊥
+IsBroken (LogFull app) = ⊥
 IsBroken NoMemory = Unit {0}
 IsBroken ReadFault = ⊥
 IsBroken WriteFault = ⊥
@@ -71,6 +73,7 @@ WritesAs BadWords text before after Same = ⊥
 WritesAs (BadLine n) text before after Same = ⊥
 WritesAs TooLong text before after Same = ⊥
 WritesAs (StoreRefused why) text before after Same = ⊥
+WritesAs (LogFull app) text before after Same = ⊥
 WritesAs NoMemory text before after Same = Same
 WritesAs ReadFault text before after Same = ⊥
 WritesAs WriteFault text before after Same = AppendsFront text before after

@@ -5,6 +5,8 @@ pub mod Isolation
 pub mod Layers
 pub mod Logs
 pub mod Parts
+pub mod Races
+pub mod Reading
 pub mod Runs
 pub mod Statuses
 pub mod Stops

@@ -15,7 +15,8 @@ ghost use Rattle.summary.specs.declared.cut.Cut.TheVariants.{Lost};
 ghost use Rattle.tee_base.specs.Faults.{Rose};
 ghost use Rattle.tee_top.specs.Boards.{BeginsWith, HasOpened, IsRefusedByRule, IsRuleAnswer};
 ghost use Rattle.tee_top.specs.Generated.{AreGenWords, IsBroken, RunsGenerated, WritesAs};
-ghost use Rattle.tee_top.specs.Runs.{IsKnown, IsServed, IsUnopened};
+ghost use Rattle.tee_top.specs.Reading.{IsKnown, IsUnopened};
+ghost use Rattle.tee_top.specs.Runs.{IsServed};
 
 use crate::run::serve;
 use crate::status::Status;

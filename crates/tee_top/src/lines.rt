@@ -13,7 +13,7 @@ ghost use Rattle.tee_core.specs.World.{World, turn_events};
 ghost use Rattle.tee_top.specs.BoardLines.{AreFirstWords};
 ghost use Rattle.tee_top.specs.Layers.{MakesEvents, RunsLines, point_of};
 ghost use Rattle.tee_top.specs.Parts.{step_events};
-ghost use Rattle.tee_top.specs.Runs.{IsKnown};
+ghost use Rattle.tee_top.specs.Reading.{IsKnown};
 ghost use Rattle.tee_top.specs.Transcript.{events_of, happens, line_events, until_events};
 
 use crate::output::{write_happened, write_power};

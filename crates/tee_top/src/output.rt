@@ -1,15 +1,17 @@
-//! What is written of a run: of what happened in an event, and of a loss of power.
+//! What is written of a run: of what happened in an event, of a loss of power, and the logs of a race.
 
-ghost use Rattle.std.specs.Prelude.{◌≡◌, ◌≤◌, IsErrOf, OnErr, OnOk};
+ghost use Rattle.std.specs.Prelude.{◌≡◌, ◌≤◌, IsErrOf, OnErr, OnOk, length};
 ghost use Rattle.std.specs.Io.KnownBytes.{Appends};
 ghost use Rattle.tee_base.specs.Faults.{Rose};
 ghost use Rattle.tee_base.specs.Transfer.{AppendsFront};
+ghost use Rattle.race_board.specs.Races.{entries_of};
+ghost use Rattle.tee_top.specs.Races.{logs_text};
 ghost use Rattle.tee_top.specs.Stops.{IsNoRefusal};
 ghost use Rattle.tee_top.specs.Transcript.{happened_lines, owner_name, power_line as power_text_of, replies_text};
 
 use crate::lines::Stop;
-use alone::{Power, Reply};
-use report::{happened_line, power_line, reply_line};
+use alone::{AppLog, Power, Reply};
+use report::{happened_line, log_lines, power_line, reply_line};
 use std::alloc::Global;
 use tee_base::{Bytes, Sink, WriteFault, write_all};
 use tee_core::Happened;
@@ -104,4 +106,28 @@ pub fn write_power<W: Sink>(
 {
     let line = power_line(alloc, owner_name(names, told), told)?;
     write_bytes(sink, line.as_slice())
+}
+
+/// Writes the log of each host, in order, each under its host's name.
+pub fn write_logs<W: Sink>(
+    alloc: Global,
+    names: &[Bytes],
+    logs: &[AppLog],
+    sink: &mut W,
+) -> Result<(), Stop>
+    requires { length logs.now ≡ length names.now }
+    ensures ok { OnOk result (Appends (W.written sink.old) (W.written sink.new)
+        (logs_text names.now (entries_of logs.now))) }
+    ensures err { OnErr result (AppendsFront (logs_text names.now (entries_of logs.now))
+        (W.written sink.old) (W.written sink.new)) }
+    ensures fault { IsErrOf result Stop.WriteFault
+        → Rose (W.failures sink.old) (W.failures sink.new) }
+    ensures later { W.failures sink.old ≤ W.failures sink.new }
+    ensures served { IsNoRefusal result }
+{
+    for (name, log) in names.iter().zip(logs) {
+        let text = log_lines(alloc, name.as_slice(), log)?;
+        write_bytes(sink, text.as_slice())?;
+    }
+    Ok(())
 }

@@ -1,6 +1,7 @@
 //! The run of a script.
 
-ghost use Rattle.std.specs.Prelude.{◌≡◌, ◌⊎◌, ◌↔◌, ◌≤◌, ◌+◌, ℕ, List, IsTrue, IsErrOf, IfErr, IfOk, IfSome, OnOk, length};
+ghost use Rattle.script.specs.declared.dialect.Dialect.TheVariants.{Whole};
+ghost use Rattle.std.specs.Prelude.{◌≡◌, ◌⊎◌, ◌↔◌, ◌≤◌, ◌+◌, ℕ, List, IsTrue, length};
 ghost use Rattle.std.specs.Io.KnownBytes.{IsAtEnd};
 ghost use Rattle.std.specs.List.{AllByRecursion};
 ghost use Rattle.app_api.specs.Hosts.{HostsFit};
@@ -16,17 +17,19 @@ ghost use Rattle.tee_top.specs.Boards.{BeginsWith, FailsAtFirst, FailsAtPower, H
 ghost use Rattle.epoch.specs.declared.answer.OpenAnswer.{OpenAnswer as OpenRefusal};
 ghost use Rattle.tee_top.specs.Generated.{AreCommandWords, AreGenWords, RunsGenerated};
 ghost use Rattle.script.specs.Workload.{workload_of};
-ghost use Rattle.tee_top.specs.Runs.{AreRunWords, IsKnown, IsServed, IsStopped, IsUnopened, IsUnrun, IsReadStatus, ReadsTo, IsBadAt, IsOfScript, IsReadable, IsText, IsBadText, IsTooMuch, IsWithin, ended_as, refusal_of, stopped_as, RunsFront, RunsToPower, RunsWhole};
+ghost use Rattle.tee_top.specs.Reading.{IsKnown, IsUnopened, IsUnrun, IsBadAt, IsOfScript, IsReadable, IsText, IsBadText, IsTooMuch};
+ghost use Rattle.tee_top.specs.Runs.{AreRunWords, IsServed, IsStopped, ended_as, RunsFront, RunsToPower, RunsWhole};
 
 use crate::generated::{gen_number, run_generated};
 use crate::lines::{Stop, run_lines};
-use crate::status::Status;
+use crate::reading::{names_of, read_lines};
+use crate::status::{Status, refusal_status, stop_status};
 use app_api::{Application, Host};
 use board::Board;
-use epoch::{BoardVolume, OpenAnswer, Unopened};
-use script::{Dialect, Line, ScriptAnswer, parse_in};
+use epoch::{BoardVolume, Unopened};
+use script::{Dialect, Line};
 use std::alloc::Global;
-use tee_base::{Bytes, NoMemory, ReadAnswer, Sink, Source, limits, read_all};
+use tee_base::{Sink, Source};
 use tee_core::{TeeOver, VolumeInUse};
 
 /// Whether the words are those of a run.
@@ -37,78 +40,6 @@ fn are_run_words(words: &[String]) -> bool
         return false;
     }
     words.len() <= 2 && words[0].as_str() == "run"
-}
-
-/// The lines of the script that the source holds.
-fn read_lines<S: Source, A: Application>(
-    alloc: Global,
-    source: &mut S,
-    hosts: &[Host<A>],
-) -> Result<Vec<Line>, Status>
-    requires { HostsFit hosts.now }
-    ensures read { IfOk result (λ lines. ReadsTo hosts.now (S.left source.old) lines.items) }
-    ensures bad { (n : ℕ) → IsErrOf result (Status.BadLine n)
-        → IsBadAt hosts.now (S.left source.old) n × IsAtEnd (S.left source.new) }
-    ensures at_end { OnOk result (IsAtEnd (S.left source.new)) }
-    ensures within { OnOk result (IsWithin (S.left source.old)) }
-    ensures bad_within { (n : ℕ) → IsErrOf result (Status.BadLine n)
-        → IsWithin (S.left source.old) }
-    ensures too_long { IsErrOf result Status.TooLong
-        → HasMoreThan MAX_SCRIPT_BYTES (S.left source.old) }
-    ensures fault { IsErrOf result Status.ReadFault
-        → Rose (S.failures source.old) (S.failures source.new) }
-    ensures later { S.failures source.old ≤ S.failures source.new }
-    ensures consumed { ConsumesWithin (MAX_SCRIPT_BYTES + 1)
-        (S.left source.old) (S.left source.new) }
-    ensures unfailed { IsErrOf result Status.TooLong
-        → S.failures source.new ≡ S.failures source.old }
-    ensures known { IfOk result (λ lines. AllByRecursion (IsKnown (length hosts.now)) lines.items) }
-    ensures few { IfErr result IsReadStatus }
-{
-    let text = match read_all(alloc, source, limits::MAX_SCRIPT_BYTES) {
-        Ok(text) => text,
-        Err(ReadAnswer::TooLong) => return Err(Status::TooLong),
-        Err(ReadAnswer::ReadFault) => return Err(Status::ReadFault),
-        Err(ReadAnswer::NoMemory) => return Err(Status::NoMemory),
-    };
-    match parse_in(alloc, text.as_slice(), hosts, Dialect::Whole) {
-        Ok(script) => Ok(script.into_lines()),
-        Err(ScriptAnswer::BadLine(number)) => Err(Status::BadLine(number)),
-        Err(ScriptAnswer::NoMemory) => Err(Status::NoMemory),
-    }
-}
-
-/// The names of the hosts, in their order.
-fn names_of<A: Application>(alloc: Global, hosts: &[Host<A>]) -> Result<Vec<Bytes>, NoMemory>
-    ensures { IfOk result (λ names. names.items ≡ names_of hosts.now) }
-{
-    let mut names = Vec::new(alloc);
-    for host in hosts {
-        names.push(host.name.copy(alloc)?)?;
-    }
-    Ok(names)
-}
-
-/// How a run ends whose board wasn't opened.
-fn refusal_status(why: OpenAnswer) -> Status
-    ensures { result ≡ refusal_of why }
-{
-    match why {
-        OpenAnswer::Failed => Status::BoardFault,
-        OpenAnswer::NoMemory => Status::NoMemory,
-        why => Status::StoreRefused(why),
-    }
-}
-
-/// How a run ends whose lines stopped.
-fn stop_status(stop: Stop) -> Status
-    ensures { result ≡ stopped_as stop }
-{
-    match stop {
-        Stop::NoMemory => Status::NoMemory,
-        Stop::WriteFault => Status::WriteFault,
-        Stop::Refused(why) => refusal_status(why),
-    }
 }
 
 /// How a run ends whose lines ended so.
@@ -207,20 +138,20 @@ pub fn run_tee<S: Source, W: Sink, B: Board + Drop, A: Application>(
     ensures written { AreRunWords words.now → result.0 ≡ Status.Done
         → B.honest board → (stores : ℕ → Store)
         → BeginsWith form_in_use (B.view board) (length hosts.items) stores
-        → IsOfScript hosts.items (S.left source.old) (λ script.
+        → IsOfScript Whole hosts.items (S.left source.old) (λ script.
         RunsWhole A.behaviour form_in_use hosts.items seed stores script
         (B.view board) (B.view result.1) (W.written sink.old) (W.written sink.new)) }
     ensures cut_short { AreRunWords words.now → result.0 ≡ Status.WriteFault
         → B.honest board → (stores : ℕ → Store)
         → BeginsWith form_in_use (B.view board) (length hosts.items) stores
-        → IsOfScript hosts.items (S.left source.old) (λ script.
+        → IsOfScript Whole hosts.items (S.left source.old) (λ script.
         RunsFront A.behaviour form_in_use hosts.items seed stores script (B.view result.1)
         (W.written sink.old) (W.written sink.new)) }
     ensures no_memory { AreRunWords words.now → result.0 ≡ Status.NoMemory
         → B.honest board → (stores : ℕ → Store)
         → BeginsWith form_in_use (B.view board) (length hosts.items) stores
         → ((sink.new ≡ sink.old) × (result.1 ≡ board))
-        ⊎ IsOfScript hosts.items (S.left source.old) (λ script.
+        ⊎ IsOfScript Whole hosts.items (S.left source.old) (λ script.
         RunsFront A.behaviour form_in_use hosts.items seed stores script (B.view result.1)
         (W.written sink.old) (W.written sink.new)) }
     ensures losses { AreRunWords words.now → result.0 ≡ Status.Done
@@ -232,12 +163,12 @@ pub fn run_tee<S: Source, W: Sink, B: Board + Drop, A: Application>(
         → BeginsWith form_in_use (B.view board) (length hosts.items) stores
         → ((sink.new ≡ sink.old) × LeavesStores form_in_use (B.view result.1)
         (world_of hosts.items seed stores))
-        ⊎ IsOfScript hosts.items (S.left source.old) (λ script.
+        ⊎ IsOfScript Whole hosts.items (S.left source.old) (λ script.
         RunsToPower A.behaviour form_in_use hosts.items seed stores script
         (B.view board) (B.view result.1) (W.written sink.old) (W.written sink.new)) }
     ensures cause { AreRunWords words.now → result.0 ≡ Status.BoardFault
         → ((sink.new ≡ sink.old) × FailsAtFirst (B.view board) (B.view result.1))
-        ⊎ IsOfScript hosts.items (S.left source.old) (λ script.
+        ⊎ IsOfScript Whole hosts.items (S.left source.old) (λ script.
         FailsAtPower script (B.view board) (B.view result.1)) }
     ensures accepted { (why : OpenRefusal) → result.0 ≡ Status.StoreRefused why
         → B.honest board → (stores : ℕ → Store)
@@ -247,21 +178,21 @@ pub fn run_tee<S: Source, W: Sink, B: Board + Drop, A: Application>(
     ensures refused { AreRunWords words.now
         → (why : OpenRefusal) → result.0 ≡ Status.StoreRefused why → B.honest board
         → ((sink.new ≡ sink.old) × IsRefusedByRule form_in_use (B.view board) why)
-        ⊎ IsOfScript hosts.items (S.left source.old) (λ script. HasPower script) }
+        ⊎ IsOfScript Whole hosts.items (S.left source.old) (λ script. HasPower script) }
     ensures rule { AreRunWords words.now
         → (why : OpenRefusal) → result.0 ≡ Status.StoreRefused why → IsTrue B.tells_reads
         → ((sink.new ≡ sink.old)
         × (counter : ℕ) × IsRefusedAt form_in_use (B.view board)
         (B.view result.1).state.reads counter why)
-        ⊎ IsOfScript hosts.items (S.left source.old) (λ script. HasPower script) }
+        ⊎ IsOfScript Whole hosts.items (S.left source.old) (λ script. HasPower script) }
     ensures answer { (why : OpenRefusal) → result.0 ≡ Status.StoreRefused why → IsRuleAnswer why }
     ensures opened { B.honest board → ((sink.new ≡ sink.old) × IsUnopened result.0)
         ⊎ HasOpened form_in_use (B.view board) }
     ensures orders { AreRunWords words.now → result.0 ≡ Status.Done
-        → IsOfScript hosts.items (S.left source.old) (λ script.
+        → IsOfScript Whole hosts.items (S.left source.old) (λ script.
         HasOrders (orders_of script) (B.view board) (B.view result.1)) }
     ensures first_orders { AreRunWords words.now → (result.1 ≡ board)
-        ⊎ IsOfScript hosts.items (S.left source.old) (λ script.
+        ⊎ IsOfScript Whole hosts.items (S.left source.old) (λ script.
         HasFirstOrders script (B.view board) (B.view result.1)) }
     // the words of a workload: its summary in place of the replies, where the summary isn't written why, and no order
     ensures generated { (number : ℕ) → AreGenWords words.now number
@@ -271,25 +202,25 @@ pub fn run_tee<S: Source, W: Sink, B: Board + Drop, A: Application>(
         (W.failures sink.old) (W.failures sink.new) }
     // when each status comes
     ensures complete { (text : List ℕ) (script : List Line) (stores : ℕ → Store)
-        → IsReadable words.now (S.left source.old) text (S.failures source.old)
+        → IsReadable (AreRunWords words.now) (S.left source.old) text (S.failures source.old)
         (S.failures source.new)
         → ¬ Rose (W.failures sink.old) (W.failures sink.new) → B.honest board
         → BeginsWith form_in_use (B.view board) (length hosts.items) stores
         → ¬ Rose (B.view board).state.faults (B.view result.1).state.faults
-        → IsText hosts.items text script
+        → IsText Whole hosts.items text script
         → (result.0 ≡ Status.Done) ⊎ (result.0 ≡ Status.NoMemory) }
     ensures bad_words { (result.0 ≡ Status.BadWords) ↔ ¬ AreCommandWords words.now }
     ensures bad_line { (n : ℕ) → result.0 ≡ Status.BadLine n
-        → IsBadAt hosts.items (S.left source.old) n × IsAtEnd (S.left source.new) }
+        → IsBadAt Whole hosts.items (S.left source.old) n × IsAtEnd (S.left source.new) }
     ensures each_bad_line { (text : List ℕ) (n : ℕ)
-        → IsReadable words.now (S.left source.old) text (S.failures source.old)
+        → IsReadable (AreRunWords words.now) (S.left source.old) text (S.failures source.old)
         (S.failures source.new)
-        → IsBadText hosts.items text n
+        → IsBadText Whole hosts.items text n
         → (result.0 ≡ Status.BadLine n) ⊎ (result.0 ≡ Status.NoMemory) }
     ensures too_long { result.0 ≡ Status.TooLong
         → HasMoreThan MAX_SCRIPT_BYTES (S.left source.old) }
     ensures each_too_long { (text : List ℕ)
-        → IsTooMuch words.now (S.left source.old) text (S.failures source.old)
+        → IsTooMuch (AreRunWords words.now) (S.left source.old) text (S.failures source.old)
         (S.failures source.new)
         → (result.0 ≡ Status.TooLong) ⊎ (result.0 ≡ Status.NoMemory) }
     ensures read_fault { result.0 ≡ Status.ReadFault
@@ -312,7 +243,7 @@ pub fn run_tee<S: Source, W: Sink, B: Board + Drop, A: Application>(
         };
         return run_generated::<B, VolumeInUse<B>, W, A>(alloc, number, sink, board, hosts, seed);
     }
-    let lines = match read_lines(alloc, source, hosts.as_slice()) {
+    let lines = match read_lines(alloc, source, hosts.as_slice(), Dialect::Whole) {
         Ok(lines) => lines,
         Err(status) => return (status, board),
     };

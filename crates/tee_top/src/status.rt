@@ -1,9 +1,10 @@
 //! How a run ends.
 
-ghost use Rattle.std.specs.Prelude.{◌≡◌, ◌++◌, [], IfOk, OnOk, codes};
+ghost use Rattle.std.specs.Prelude.{◌≡◌, ◌<◌, ◌++◌, ℕ, [], IfOk, OnOk, codes, length};
 ghost use Rattle.std.specs.Fmt.{decimal};
-ghost use Rattle.tee_top.specs.Statuses.{number_of, status_text, why_text};
+ghost use Rattle.tee_top.specs.Statuses.{refusal_of, status_text, stopped_as, why_text};
 
+use crate::lines::Stop;
 use epoch::OpenAnswer;
 use report::LineBuffer;
 use std::alloc::Global;
@@ -22,6 +23,8 @@ pub enum Status {
     TooLong,
     /// The board wasn't opened, for this reason.
     StoreRefused(OpenAnswer),
+    /// The log of the application of this index has no place for what a line of a race brings.
+    LogFull(u8),
     /// There was no memory.
     NoMemory,
     /// A read failed. Nothing was run.
@@ -46,6 +49,7 @@ impl Status {
             Status::BadLine(_) => 65,
             Status::TooLong => 66,
             Status::StoreRefused(_) => 67,
+            Status::LogFull(_) => 68,
             Status::NoMemory => 71,
             Status::ReadFault => 73,
             Status::WriteFault => 74,
@@ -105,9 +109,10 @@ fn write_garbled(line: &mut LineBuffer, region: u8, leaf: u8) -> Result<(), NoMe
 }
 
 /// Writes to an empty line what is told of a status, with a line feed; nothing of one that is Done.
-fn write_status(line: &mut LineBuffer, status: &Status) -> Result<(), NoMemory>
-    requires { line.old ≡ [] }
-    ensures { OnOk result (line.new ≡ status_text status.now) }
+fn write_status(line: &mut LineBuffer, status: &Status, names: &[Bytes]) -> Result<(), NoMemory>
+    requires named { (app : ℕ) → status.now ≡ Status.LogFull app → app < length names.now }
+    requires empty { line.old ≡ [] }
+    ensures { OnOk result (line.new ≡ status_text names.now status.now) }
 {
     match status {
         Status::Done => Ok(()),
@@ -122,6 +127,11 @@ fn write_status(line: &mut LineBuffer, status: &Status) -> Result<(), NoMemory>
             write_why(line, why)?;
             line.text(b"\n")
         }
+        Status::LogFull(app) => {
+            line.text(b"teectl: log of ")?;
+            line.text(names[*app as usize].as_slice())?;
+            line.text(b" is full\n")
+        }
         Status::NoMemory => line.text(b"teectl: out of memory\n"),
         Status::ReadFault => line.text(b"teectl: cannot read\n"),
         Status::WriteFault => line.text(b"teectl: cannot write\n"),
@@ -130,10 +140,33 @@ fn write_status(line: &mut LineBuffer, status: &Status) -> Result<(), NoMemory>
 }
 
 /// What is told of a status, with a line feed; nothing of one that is Done. The names are those of the hosts.
-pub fn status_line(alloc: Global, status: &Status, _names: &[Bytes]) -> Result<Bytes, NoMemory>
-    ensures { IfOk result (λ line. line ≡ status_text status.now) }
+pub fn status_line(alloc: Global, status: &Status, names: &[Bytes]) -> Result<Bytes, NoMemory>
+    requires { (app : ℕ) → status.now ≡ Status.LogFull app → app < length names.now }
+    ensures { IfOk result (λ line. line ≡ status_text names.now status.now) }
 {
     let mut line = LineBuffer::new(alloc);
-    write_status(&mut line, status)?;
+    write_status(&mut line, status, names)?;
     Ok(line.into_bytes())
+}
+
+/// How a run ends whose board wasn't opened.
+pub(crate) fn refusal_status(why: OpenAnswer) -> Status
+    ensures { result ≡ refusal_of why }
+{
+    match why {
+        OpenAnswer::Failed => Status::BoardFault,
+        OpenAnswer::NoMemory => Status::NoMemory,
+        why => Status::StoreRefused(why),
+    }
+}
+
+/// How a run ends whose lines stopped.
+pub(crate) fn stop_status(stop: Stop) -> Status
+    ensures { result ≡ stopped_as stop }
+{
+    match stop {
+        Stop::NoMemory => Status::NoMemory,
+        Stop::WriteFault => Status::WriteFault,
+        Stop::Refused(why) => refusal_status(why),
+    }
 }

@@ -1,7 +1,7 @@
 -- What a status of reading says of a check.
 use Rattle.tee_top.specs.declared.status.Status.{Status}
-use Rattle.tee_top.specs.declared.status.Status.TheVariants.{Done, BadWords, BadLine, TooLong, StoreRefused, NoMemory, ReadFault, WriteFault, BoardFault}
-use Rattle.tee_top.specs.Runs.{IsReadStatus}
+use Rattle.tee_top.specs.declared.status.Status.TheVariants.{Done, BadWords, BadLine, TooLong, StoreRefused, LogFull, NoMemory, ReadFault, WriteFault, BoardFault}
+use Rattle.tee_top.specs.Reading.{IsReadStatus}
 use Rattle.teectl.specs.Checks.{IsCheckStatus}
 
 -- a status of reading is one of a check
@@ -11,6 +11,7 @@ read_checks BadWords few = few
 read_checks (BadLine n) few = tt
 read_checks TooLong few = tt
 read_checks (StoreRefused why) few = few
+read_checks (LogFull app) few = few
 read_checks NoMemory few = tt
 read_checks ReadFault few = tt
 read_checks WriteFault few = few

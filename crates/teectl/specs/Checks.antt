@@ -1,14 +1,15 @@
 -- What a check of a script may say.
+use Rattle.script.specs.declared.dialect.Dialect.TheVariants.{Whole}
 use Rattle.std.specs.Prelude.{ℕ, List, Option}
 use Rattle.app_api.specs.declared.host.Host.{Host}
 use Rattle.script.specs.declared.line.Line.{Line}
-use Rattle.tee_top.specs.Runs.{ReadsTo}
+use Rattle.tee_top.specs.Reading.{ReadsTo}
 use Rattle.tee_top.specs.declared.status.Status.{Status}
-use Rattle.tee_top.specs.declared.status.Status.TheVariants.{Done, BadWords, BadLine, TooLong, StoreRefused, NoMemory, ReadFault, WriteFault, BoardFault}
+use Rattle.tee_top.specs.declared.status.Status.TheVariants.{Done, BadWords, BadLine, TooLong, StoreRefused, LogFull, NoMemory, ReadFault, WriteFault, BoardFault}
 
 -- what the source had left, where it tells that, is a script
 abbrev pub HasScript : {A : Type 0} → List (Host A) → Option (List ℕ) → Type 0
-HasScript hosts left = (script : List Line) × ReadsTo hosts left script
+HasScript hosts left = (script : List Line) × ReadsTo Whole hosts left script
 
 -- a status of a check: that of a script, or one of reading it
 abbrev pub IsCheckStatus : Status → Type 0
@@ -17,6 +18,7 @@ IsCheckStatus BadWords = ⊥
 IsCheckStatus (BadLine n) = Unit {0}
 IsCheckStatus TooLong = Unit {0}
 IsCheckStatus (StoreRefused why) = ⊥
+IsCheckStatus (LogFull app) = ⊥
 IsCheckStatus NoMemory = Unit {0}
 IsCheckStatus ReadFault = Unit {0}
 IsCheckStatus WriteFault = ⊥

@@ -1,5 +1,6 @@
 //! Runs over a blank board in memory.
 
+ghost use Rattle.script.specs.declared.dialect.Dialect.TheVariants.{Whole};
 ghost use Rattle.std.specs.Prelude.{◌≡◌, ◌≤◌, ℕ, IfOk, length, replicate};
 ghost use Rattle.tee_base.specs.declared.limits.TheConstants.{BOARD_BLOCKS, MAX_HOSTS};
 ghost use Rattle.app_api.specs.Hosts.{HostsFit};
@@ -12,7 +13,8 @@ ghost use Rattle.store_api.specs.Stores.{empty_store};
 ghost use Rattle.tee_core.specs.InUse.{form_in_use};
 ghost use Rattle.tee_top.specs.Boards.{BeginsWith};
 ghost use Rattle.tee_top.specs.Generated.{AreGenWords, RunsSummed};
-ghost use Rattle.tee_top.specs.Runs.{AreRunWords, IsOfScript, RunsWhole};
+ghost use Rattle.tee_top.specs.Reading.{IsOfScript};
+ghost use Rattle.tee_top.specs.Runs.{AreRunWords, RunsWhole};
 
 use app_api::{Application, Host};
 use boards::MemBoard;
@@ -48,7 +50,7 @@ pub fn run_blank<S: Source, W: Sink, A: Application>(
 ) -> Status
     requires { HostsFit hosts.items }
     ensures written { AreRunWords words.now → result ≡ Status.Done → (old new : View)
-        × IsOfScript hosts.items (S.left source.old) (λ script.
+        × IsOfScript Whole hosts.items (S.left source.old) (λ script.
         RunsWhole A.behaviour form_in_use hosts.items seed (λ app. empty_store) script old new
         (W.written sink.old) (W.written sink.new)) }
     ensures generated { (number : ℕ) → AreGenWords words.now number → result ≡ Status.Done

@@ -1,5 +1,6 @@
 //! Whether a source has a script, read as a run reads it.
 
+ghost use Rattle.script.specs.declared.dialect.Dialect.TheVariants.{Whole};
 ghost use Rattle.std.specs.Prelude.{◌≡◌, ◌⊎◌, ℕ, List, String, IsErrOf, IfErr, IfOk, OnOk};
 ghost use Rattle.std.specs.Global.{Global};
 ghost use Rattle.std.specs.Io.KnownBytes.{IsAtEnd};
@@ -8,7 +9,8 @@ ghost use Rattle.script.specs.declared.line.Line.{Line};
 ghost use Rattle.tee_base.specs.Faults.{Rose};
 ghost use Rattle.tee_base.specs.Transfer.{HasMoreThan};
 ghost use Rattle.tee_base.specs.declared.limits.TheConstants.{MAX_SCRIPT_BYTES};
-ghost use Rattle.tee_top.specs.Runs.{IsBadAt, IsBadText, IsReadable, IsReadStatus, IsText, IsTooMuch, IsWithin, ReadsTo};
+ghost use Rattle.tee_top.specs.Runs.{AreRunWords};
+ghost use Rattle.tee_top.specs.Reading.{IsBadAt, IsBadText, IsReadable, IsReadStatus, IsText, IsTooMuch, IsWithin, ReadsTo};
 ghost use Rattle.teectl.specs.Checks.{HasScript, IsCheckStatus};
 
 use app_api::{Application, Host};
@@ -24,9 +26,9 @@ fn read_script<S: Source, A: Application>(
     hosts: &[Host<A>],
 ) -> Result<Script, Status>
     requires { HostsFit hosts.now }
-    ensures read { IfOk result (λ script. ReadsTo hosts.now (S.left source.old) script) }
+    ensures read { IfOk result (λ script. ReadsTo Whole hosts.now (S.left source.old) script) }
     ensures bad { (n : ℕ) → IsErrOf result (Status.BadLine n)
-        → IsBadAt hosts.now (S.left source.old) n × IsAtEnd (S.left source.new) }
+        → IsBadAt Whole hosts.now (S.left source.old) n × IsAtEnd (S.left source.new) }
     ensures at_end { OnOk result (IsAtEnd (S.left source.new)) }
     ensures within { OnOk result (IsWithin (S.left source.old)) }
     ensures bad_within { (n : ℕ) → IsErrOf result (Status.BadLine n)
@@ -61,24 +63,24 @@ pub fn check_script<S: Source, A: Application>(
     ensures script { result ≡ Status.Done → HasScript hosts.now (S.left source.old) }
     ensures whole { result ≡ Status.Done → IsAtEnd (S.left source.new) }
     ensures bad_line { (n : ℕ) → result ≡ Status.BadLine n
-        → IsBadAt hosts.now (S.left source.old) n × IsAtEnd (S.left source.new) }
+        → IsBadAt Whole hosts.now (S.left source.old) n × IsAtEnd (S.left source.new) }
     ensures too_long { result ≡ Status.TooLong
         → HasMoreThan MAX_SCRIPT_BYTES (S.left source.old) }
     ensures read_fault { result ≡ Status.ReadFault
         → Rose (S.failures source.old) (S.failures source.new) }
     // with a run's words each of these is the premise of the run's own clause
     ensures each_script { (words : List (String Global)) (text : List ℕ) (script : List Line)
-        → IsReadable words (S.left source.old) text (S.failures source.old)
+        → IsReadable (AreRunWords words) (S.left source.old) text (S.failures source.old)
         (S.failures source.new)
-        → IsText hosts.now text script
+        → IsText Whole hosts.now text script
         → (result ≡ Status.Done) ⊎ (result ≡ Status.NoMemory) }
     ensures each_bad_line { (words : List (String Global)) (text : List ℕ) (n : ℕ)
-        → IsReadable words (S.left source.old) text (S.failures source.old)
+        → IsReadable (AreRunWords words) (S.left source.old) text (S.failures source.old)
         (S.failures source.new)
-        → IsBadText hosts.now text n
+        → IsBadText Whole hosts.now text n
         → (result ≡ Status.BadLine n) ⊎ (result ≡ Status.NoMemory) }
     ensures each_too_long { (words : List (String Global)) (text : List ℕ)
-        → IsTooMuch words (S.left source.old) text (S.failures source.old)
+        → IsTooMuch (AreRunWords words) (S.left source.old) text (S.failures source.old)
         (S.failures source.new)
         → (result ≡ Status.TooLong) ⊎ (result ≡ Status.NoMemory) }
     ensures few { IsCheckStatus result }

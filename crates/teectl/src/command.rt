@@ -11,6 +11,8 @@ pub enum Asked<'a> {
     Check,
     /// A run over the board of these files.
     RunOver(&'a str),
+    /// A race over a blank board in memory. It refuses faulty words itself.
+    Race,
     /// A run over a blank board in memory, which faulty words are taken for too: the run refuses them.
     Run,
 }
@@ -29,6 +31,7 @@ fn asked_by_one(word: &str) -> Asked<'_> {
 /// What the words ask for. `main` answers by itself only where they are exactly the words for that.
 pub fn asked_for(words: &[String]) -> Asked<'_> {
     match words {
+        [first, ..] if first.as_str() == "race" => Asked::Race,
         [word] => asked_by_one(word.as_str()),
         [first, image] if first.as_str() == "run" => match image.as_str() {
             "--help" => Asked::Help,

@@ -8,6 +8,7 @@ mod command;
 mod handed_in;
 mod kept;
 mod listing;
+mod race;
 #[cfg(test)]
 mod tests;
 mod texts;
@@ -19,25 +20,30 @@ use crate::check::check_script;
 use crate::command::{Asked, asked_for, without_explain};
 use crate::kept::KeptSource;
 use crate::listing::host_lines;
+use crate::race::race_blank;
 use crate::why::{Ended, with_file_reason, with_reason};
 use board::Board;
 use boards::{FileBoard, FileBoardFailed};
 use sample_apps::sample_hosts;
+use script::Dialect;
 use std::alloc::Global;
 use std::io;
 use std::io::IsTerminal;
 use std::process::ExitCode;
 use std::string::String;
-use tee_base::{StdSink, StdSource};
+use std::sync::Wait;
+use std::thread::Threads;
+use tee_base::{Bytes, StdSink, StdSource};
 use tee_top::{Status, run_tee, status_line};
 
-/// The status, with why a run ended so where that is asked for. The text is what was read, as far as it is known.
-fn ended(alloc: Global, status: Status, text: Option<&[u8]>, explains: bool) -> Ended {
-    if !explains {
+/// The status, with why a run ended so where that is asked for: then the dialect is what was taken of the grammar. The text is what
+/// was read, as far as it is known.
+fn ended(alloc: Global, status: Status, text: Option<&[u8]>, asked: Option<Dialect>) -> Ended {
+    let Some(dialect) = asked else {
         return Ended::plain(status);
-    }
+    };
     match sample_hosts(alloc) {
-        Ok(hosts) => with_reason(alloc, status, text, hosts.as_slice()),
+        Ok(hosts) => with_reason(alloc, status, text, hosts.as_slice(), dialect),
         Err(_) => Ended::plain(status),
     }
 }
@@ -57,7 +63,12 @@ fn run_over<B: Board + Drop>(
     let mut source = KeptSource::new(alloc, StdSource::new(rt.stdin()), explains);
     let mut sink = StdSink::new(io::writer(rt));
     let (status, _board) = run_tee(alloc, words, &mut source, &mut sink, board, hosts, seed);
-    ended(alloc, status, source.kept(), explains)
+    ended(
+        alloc,
+        status,
+        source.kept(),
+        explains.then_some(Dialect::Whole),
+    )
 }
 
 /// Runs the words over a blank board in memory.
@@ -69,7 +80,43 @@ fn run_in_memory(rt: &HostRuntime, alloc: Global, words: &[String], explains: bo
     let mut source = KeptSource::new(alloc, StdSource::new(rt.stdin()), explains);
     let mut sink = StdSink::new(io::writer(rt));
     let status = run_blank(alloc, words, &mut source, &mut sink, hosts, BLANK_SEED);
-    ended(alloc, status, source.kept(), explains)
+    ended(
+        alloc,
+        status,
+        source.kept(),
+        explains.then_some(Dialect::Whole),
+    )
+}
+
+/// Races the script over a blank board in memory.
+#[inline(never)]
+fn race_in_memory<R: Threads + Wait + Sync>(
+    rt: &HostRuntime,
+    threads: &R,
+    alloc: Global,
+    words: &[String],
+    explains: bool,
+) -> Ended {
+    let Ok(hosts) = sample_hosts(alloc) else {
+        return Ended::plain(Status::NoMemory);
+    };
+    let mut source = KeptSource::new(alloc, StdSource::new(rt.stdin()), explains);
+    let mut sink = StdSink::new(io::writer(rt));
+    let status = race_blank(
+        threads,
+        alloc,
+        words,
+        &mut source,
+        &mut sink,
+        hosts,
+        BLANK_SEED,
+    );
+    ended(
+        alloc,
+        status,
+        source.kept(),
+        explains.then_some(Dialect::WithoutBoard),
+    )
 }
 
 /// Runs the words over the board of these files.
@@ -101,13 +148,26 @@ fn check_input(rt: &HostRuntime, alloc: Global) -> Ended {
     };
     let mut source = KeptSource::new(alloc, StdSource::new(rt.stdin()), true);
     let status = check_script(alloc, &mut source, hosts.as_slice());
-    ended(alloc, status, source.kept(), true)
+    ended(alloc, status, source.kept(), Some(Dialect::Whole))
+}
+
+/// The line of a status; none where there is no memory for it. The application of a full log is one of the hosts.
+fn told_line(alloc: Global, status: &Status) -> Option<Bytes> {
+    let hosts = sample_hosts(alloc).ok()?;
+    let mut names = Vec::new(alloc);
+    for host in &hosts {
+        names.push(host.name.copy(alloc).ok()?).ok()?;
+    }
+    match status {
+        Status::LogFull(app) if *app as usize >= names.len() => None,
+        status => status_line(alloc, status, names.as_slice()).ok(),
+    }
 }
 
 /// Tells standard error of a status that isn't Done, and why it is so. Where there is no memory for it, or it can't be
 /// written, the exit status alone tells.
 fn tell<R: Eprint>(rt: &R, alloc: Global, Ended { status, why }: &Ended) {
-    let Ok(line) = status_line(alloc, status, &[]) else {
+    let Some(line) = told_line(alloc, status) else {
         return;
     };
     if let Ok(text) = str::from_utf8(line.as_slice()) {
@@ -139,13 +199,20 @@ fn print_hosts<R: Print>(rt: &R, alloc: Global) -> Ended {
 }
 
 /// Does what the words ask for.
-fn answer(rt: &HostRuntime, alloc: Global, words: &[String], explains: bool) -> Ended {
+fn answer<R: Threads + Wait + Sync>(
+    rt: &HostRuntime,
+    threads: &R,
+    alloc: Global,
+    words: &[String],
+    explains: bool,
+) -> Ended {
     match asked_for(words) {
         Asked::Help => print(rt, texts::HELP),
         Asked::Version => print(rt, texts::VERSION),
         Asked::Hosts => print_hosts(rt, alloc),
         Asked::Check => check_input(rt, alloc),
         Asked::RunOver(image) => run_over_files(rt, alloc, words, image, explains),
+        Asked::Race => race_in_memory(rt, threads, alloc, words, explains),
         Asked::Run => run_in_memory(rt, alloc, words, explains),
     }
 }
@@ -156,7 +223,7 @@ fn main(rt: HostRuntime) -> ExitCode {
         Ok(words) => {
             let (words, is_asked) = without_explain(words.as_slice());
             let explains = is_asked || rt.stderr().is_terminal();
-            answer(&rt, alloc, words, explains)
+            answer(&rt, &rt, alloc, words, explains)
         }
         Err(status) => Ended::plain(status),
     };

@@ -388,8 +388,11 @@ const STATUSES: [(Status, u8, &'static str); 15] = [
     ),
 ];
 
-/// Compares the number of a status, and its text.
+/// Compares the number of a status that names no application, and its text.
 fn check_status(rt: &impl Abort, alloc: Global, status: &Status, number: u8, text: &str) {
+    if let Status::LogFull(_) = status {
+        panic!(rt; "a status that names an application");
+    }
     let line = status_line(alloc, status, &[]).expect(rt, "a line");
     let holds = status.number() == number && line.as_slice() == text.as_bytes();
     assert!(rt; holds);

@@ -7,6 +7,8 @@ usage: teectl run       run the script on standard input over an empty board in 
                         replies to standard output; at a terminal ctrl-D ends the script
        teectl run IMAGE run it over the board of the files IMAGE, IMAGE.ctr and IMAGE.key, which keeps
                         the applications' objects
+       teectl race      run each client of the script on standard input in a thread of its own, over an
+                        empty board in memory, and write the log of each host; without board lines
        teectl gen N     run the workload of number N, 2,000 generated lines, over an empty board in memory,
                         and write a summary
        teectl --check   read the script on standard input and run nothing: say which line is none, and why
@@ -21,8 +23,8 @@ IMAGE.key has 64 bytes, the key of the board and the seed of random bytes. IMAGE
 where they are missing.
 
 exit statuses: 0 done, 64 faulty command line, 65 a line is no script line, 66 script too long,
-67 the board holds no volume that fits, 71 out of memory, 73 cannot read, 74 cannot write,
-75 the board failed
+67 the board holds no volume that fits, 68 a log of a race is full, 71 out of memory, 73 cannot read,
+74 cannot write, 75 the board failed
 
 docs/SCRIPT.md describes the script language and the printed lines.
 ";

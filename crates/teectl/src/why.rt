@@ -10,6 +10,7 @@ use crate::why::refusals::refusal_reason;
 use app_api::Host;
 use boards::{BoardFile, FileFailure};
 use reasons::line_reason;
+use script::Dialect;
 use std::alloc::{AllocError, Global};
 use std::fs;
 use std::rt::Files;
@@ -30,16 +31,18 @@ impl Ended {
     }
 }
 
-/// What is said of a status where no file is at fault. The text is what was read, as far as it is known.
+/// What is said of a status where no file is at fault. The text is what was read, as far as it is known, and of the grammar this was
+/// taken.
 fn words_for<A>(
     alloc: Global,
     status: &Status,
     text: Option<&[u8]>,
     hosts: &[Host<A>],
+    dialect: Dialect,
 ) -> Result<Option<String>, AllocError> {
     let said = match status {
         Status::BadLine(number) => match text {
-            Some(text) => return line_reason(alloc, text, *number, hosts),
+            Some(text) => return line_reason(alloc, text, *number, hosts, dialect),
             None => return Ok(None),
         },
         Status::TooLong => {
@@ -67,8 +70,9 @@ pub fn with_reason<A>(
     status: Status,
     text: Option<&[u8]>,
     hosts: &[Host<A>],
+    dialect: Dialect,
 ) -> Ended {
-    let why = words_for(alloc, &status, text, hosts).unwrap_or(None);
+    let why = words_for(alloc, &status, text, hosts, dialect).unwrap_or(None);
     Ended { status, why }
 }
 

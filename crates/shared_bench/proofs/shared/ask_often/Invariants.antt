@@ -3,4 +3,4 @@ use Rattle.shared_tee.specs.Passes.{IsPassOf}
 use Rattle.shared_bench.proofs.shared.ask_often.Given as goal
 
 abbrev pub invariant-loop : goal.invariant-loop
-invariant-loop l = IsPassOf l.tee l.pass
+invariant-loop g l = IsPassOf l.tee l.pass

@@ -11,7 +11,8 @@ use Rattle.tee_base.specs.Faults.{Rose}
 use Rattle.tee_core.specs.World.{world_of}
 use Rattle.tee_top.specs.Boards.{LeavesStores, orders_of}
 use Rattle.tee_top.specs.Generated.{RunsGenerated, WritesAs}
-use Rattle.tee_top.specs.Runs.{IsKnown, IsStopped, RunsFront, RunsToPower, RunsWhole}
+use Rattle.tee_top.specs.Reading.{IsKnown}
+use Rattle.tee_top.specs.Runs.{IsStopped, RunsFront, RunsToPower, RunsWhole}
 use Rattle.tee_top.proofs.Calm.{workload_orders_none}
 use Rattle.tee_top.proofs.Opened.{begin_leaves}
 use Rattle.tee_top.proofs.Summed.{cut_ends, other_ends, summed_ends, unmade_ends}

@@ -5,7 +5,7 @@ use Rattle.mac_digest.specs.declared.digests.Hash.TheVariants.{Sha256}
 use Rattle.script.specs.Canonical.{canonical}
 use Rattle.script.specs.declared.dialect.Dialect.TheVariants.{Whole}
 use Rattle.script.specs.declared.line.Line.{Line}
-use Rattle.tee_top.specs.Runs.{IsKnown}
+use Rattle.tee_top.specs.Reading.{IsKnown}
 use Rattle.tee_top.proofs.Known.{known_lines}
 use Rattle.tee_top.proofs.generated.workload_for.Goals as goal
 

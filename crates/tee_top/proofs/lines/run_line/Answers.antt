@@ -4,7 +4,7 @@ use Rattle.script.specs.declared.line.Line.{Line}
 use Rattle.tee_core.specs.Represents.{app_count}
 use Rattle.tee_core.specs.declared.happened.Event.TheVariants as events
 use Rattle.tee_top.specs.Parts.{step_events}
-use Rattle.tee_top.specs.Runs.{IsKnown}
+use Rattle.tee_top.specs.Reading.{IsKnown}
 use Rattle.tee_top.proofs.Layers.{line_of_call, line_of_cancel, line_of_turns, never_stopped, same_end, same_stop}
 use Rattle.tee_top.proofs.Losses.{losses_none}
 use Rattle.tee_top.proofs.Powers.{fuse_whole, order_made}

@@ -3,7 +3,7 @@ use Rattle.std.specs.List.{AllByRecursion}
 use Rattle.std.proofs.lemmas.Result.{err_from_is_err_and}
 use Rattle.script.specs.declared.line.Line.{Line}
 use Rattle.tee_core.specs.Represents.{app_count}
-use Rattle.tee_top.specs.Runs.{IsKnown}
+use Rattle.tee_top.specs.Reading.{IsKnown}
 use Rattle.tee_top.specs.Transcript.{after_events, events_of}
 use Rattle.tee_top.proofs.Along.{line_run, line_stops, lines_refused, lines_run, lines_stop, refused_before, run_none}
 use Rattle.tee_top.proofs.Layers.{never_stopped}

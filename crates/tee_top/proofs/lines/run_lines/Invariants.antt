@@ -5,7 +5,7 @@ use Rattle.tee_core.specs.Represents.{app_count, boots_of, volume_of, Represents
 use Rattle.tee_core.specs.World.{World}
 use Rattle.tee_top.specs.Boards.{HasOrders, WritesLosses, orders_of}
 use Rattle.tee_top.specs.Parts.{IsRunOf, point}
-use Rattle.tee_top.specs.Runs.{IsKnown}
+use Rattle.tee_top.specs.Reading.{IsKnown}
 use Rattle.tee_top.specs.Transcript.{events_of}
 use Rattle.tee_top.proofs.lines.run_lines.Given as goal
 

@@ -5,7 +5,8 @@ use Rattle.script.proofs.Places.{not_both}
 use Rattle.script.specs.Workload.{workload_of}
 use Rattle.tee_core.specs.InUse.{form_in_use}
 use Rattle.tee_top.specs.Generated.{RunsGenerated}
-use Rattle.tee_top.specs.Runs.{IsBadAt, IsKnown, IsReadStatus, IsServed, IsStopped, ReadsTo}
+use Rattle.tee_top.specs.Reading.{IsBadAt, IsKnown, IsReadStatus, ReadsTo}
+use Rattle.tee_top.specs.Runs.{IsServed, IsStopped}
 use Rattle.tee_top.proofs.Ended.{bad_line_told, read_unopened, script_told, served_told, too_long_told, within_for}
 use Rattle.tee_top.proofs.Powers.{fails_rose}
 use Rattle.tee_top.proofs.run.run_tee.Goals as goal
@@ -19,14 +20,14 @@ returns-in-Err-clause-unwritten g c = λ unrun. refl
 pub returns-in-Err-clause-bad_line : goal.returns-in-Err-clause-bad_line
 returns-in-Err-clause-bad_line g c = λ n e.
     let bad = c.in-Err.ensures.bad n (ap Err e) in
-    (subst (λ hosts. IsBadAt hosts (g.S.Source.left c.args.source.now) n) c.as_slice.ensures.value bad.0, bad.1)
+    (subst (λ hosts. IsBadAt Whole hosts (g.S.Source.left c.args.source.now) n) c.as_slice.ensures.value bad.0, bad.1)
 
 pub returns-in-Err-clause-each_bad_line : goal.returns-in-Err-clause-each_bad_line
 returns-in-Err-clause-each_bad_line g c = λ text n readable bad.
-    bad_line_told c.args.hosts.items c.requires (g.S.Source.left c.args.source.now) (g.S.Source.failures c.args.source.now) (g.S.Source.failures c.read_lines.new.source) text c.in-Err.status n
+    bad_line_told Whole c.args.hosts.items c.requires (g.S.Source.left c.args.source.now) (g.S.Source.failures c.args.source.now) (g.S.Source.failures c.read_lines.new.source) text c.in-Err.status n
     (record {
       few = c.in-Err.ensures.few;
-      bad = λ k e. subst (λ hosts. IsBadAt hosts (g.S.Source.left c.args.source.now) k) c.as_slice.ensures.value (c.in-Err.ensures.bad k (ap Err e)).0;
+      bad = λ k e. subst (λ hosts. IsBadAt Whole hosts (g.S.Source.left c.args.source.now) k) c.as_slice.ensures.value (c.in-Err.ensures.bad k (ap Err e)).0;
       too_long = λ e. c.in-Err.ensures.too_long (ap Err e);
       fault = λ e. c.in-Err.ensures.fault (ap Err e);
     })
@@ -34,10 +35,11 @@ returns-in-Err-clause-each_bad_line g c = λ text n readable bad.
 
 pub returns-in-Err-clause-complete : goal.returns-in-Err-clause-complete
 returns-in-Err-clause-complete g c = λ text script stores readable written honest begins unfailed good.
-    script_told c.args.hosts.items c.requires (g.S.Source.left c.args.source.now) (g.S.Source.failures c.args.source.now) (g.S.Source.failures c.read_lines.new.source) text c.in-Err.status script
+    script_told Whole c.args.hosts.items c.requires
+    (g.S.Source.left c.args.source.now) (g.S.Source.failures c.args.source.now) (g.S.Source.failures c.read_lines.new.source) text c.in-Err.status script
     (record {
       few = c.in-Err.ensures.few;
-      bad = λ k e. subst (λ hosts. IsBadAt hosts (g.S.Source.left c.args.source.now) k) c.as_slice.ensures.value (c.in-Err.ensures.bad k (ap Err e)).0;
+      bad = λ k e. subst (λ hosts. IsBadAt Whole hosts (g.S.Source.left c.args.source.now) k) c.as_slice.ensures.value (c.in-Err.ensures.bad k (ap Err e)).0;
       too_long = λ e. c.in-Err.ensures.too_long (ap Err e);
       fault = λ e. c.in-Err.ensures.fault (ap Err e);
     })
@@ -48,15 +50,15 @@ returns-in-Err-clause-opened g c = λ honest. inl (refl, read_unopened c.in-Err.
 
 pub returns-clause-each_bad_line : goal.returns-clause-each_bad_line
 returns-clause-each_bad_line g c = λ text n readable bad.
-    let reads = subst (λ hosts. ReadsTo hosts (g.S.Source.left c.args.source.now) c.in-Ok.lines.items) c.as_slice.ensures.value c.in-Ok.ensures.read in
-    absurd (not_both Whole c.args.hosts.items text c.in-Ok.lines.items n c.requires (subst (λ left. ReadsTo c.args.hosts.items left c.in-Ok.lines.items) readable.told reads) bad)
+    let reads = subst (λ hosts. ReadsTo Whole hosts (g.S.Source.left c.args.source.now) c.in-Ok.lines.items) c.as_slice.ensures.value c.in-Ok.ensures.read in
+    absurd (not_both Whole c.args.hosts.items text c.in-Ok.lines.items n c.requires (subst (λ left. ReadsTo Whole c.args.hosts.items left c.in-Ok.lines.items) readable.told reads) bad)
 
 pub returns-in-Err-clause-each_too_long : goal.returns-in-Err-clause-each_too_long
 returns-in-Err-clause-each_too_long g c = λ text much.
-    too_long_told c.args.hosts.items c.requires (g.S.Source.left c.args.source.now) (g.S.Source.failures c.args.source.now) (g.S.Source.failures c.read_lines.new.source) text c.in-Err.status
+    too_long_told Whole c.args.hosts.items c.requires (g.S.Source.left c.args.source.now) (g.S.Source.failures c.args.source.now) (g.S.Source.failures c.read_lines.new.source) text c.in-Err.status
     (record {
       few = c.in-Err.ensures.few;
-      bad = λ k e. subst (λ hosts. IsBadAt hosts (g.S.Source.left c.args.source.now) k) c.as_slice.ensures.value (c.in-Err.ensures.bad k (ap Err e)).0;
+      bad = λ k e. subst (λ hosts. IsBadAt Whole hosts (g.S.Source.left c.args.source.now) k) c.as_slice.ensures.value (c.in-Err.ensures.bad k (ap Err e)).0;
       too_long = λ e. c.in-Err.ensures.too_long (ap Err e);
       fault = λ e. c.in-Err.ensures.fault (ap Err e);
     })
@@ -64,17 +66,17 @@ returns-in-Err-clause-each_too_long g c = λ text much.
 
 pub returns-clause-each_too_long : goal.returns-clause-each_too_long
 returns-clause-each_too_long g c = λ text much.
-    absurd (within_for c.args.hosts.items c.requires (g.S.Source.left c.args.source.now) (g.S.Source.failures c.args.source.now) (g.S.Source.failures c.read_lines.new.source) text
+    absurd (within_for Whole c.args.hosts.items c.requires (g.S.Source.left c.args.source.now) (g.S.Source.failures c.args.source.now) (g.S.Source.failures c.read_lines.new.source) text
     much.told much.beyond c.in-Ok.ensures.within)
 
 pub returns-clause-no_memory : goal.returns-clause-no_memory
 returns-clause-no_memory g c = λ run same honest stores begins.
-    let reads = subst (λ hosts. ReadsTo hosts (g.S.Source.left c.args.source.now) c.in-Ok.lines.items) c.as_slice.ensures.value c.in-Ok.ensures.read in
+    let reads = subst (λ hosts. ReadsTo Whole hosts (g.S.Source.left c.args.source.now) c.in-Ok.lines.items) c.as_slice.ensures.value c.in-Ok.ensures.read in
     inr (c.in-Ok.lines.items, reads, c.serve.ensures.stopped (subst IsStopped (sym same) tt) honest stores begins)
 
 pub returns-clause-board_fault : goal.returns-clause-board_fault
 returns-clause-board_fault g c = λ run same honest stores begins.
-    let reads = subst (λ hosts. ReadsTo hosts (g.S.Source.left c.args.source.now) c.in-Ok.lines.items) c.as_slice.ensures.value c.in-Ok.ensures.read in
+    let reads = subst (λ hosts. ReadsTo Whole hosts (g.S.Source.left c.args.source.now) c.in-Ok.lines.items) c.as_slice.ensures.value c.in-Ok.ensures.read in
     ⊎_elim (λ none. inl none) (λ front. inr (c.in-Ok.lines.items, reads, front)) (c.serve.ensures.board_fault same honest stores begins)
 
 pub returns-clause-complete : goal.returns-clause-complete
@@ -141,22 +143,22 @@ returns-clause-unfailed g c = λ e. absurd (subst IsServed e c.serve.ensures.few
 
 pub returns-clause-written : goal.returns-clause-written
 returns-clause-written g c = λ run same honest stores begins.
-    let reads = subst (λ hosts. ReadsTo hosts (g.S.Source.left c.args.source.now) c.in-Ok.lines.items) c.as_slice.ensures.value c.in-Ok.ensures.read in
+    let reads = subst (λ hosts. ReadsTo Whole hosts (g.S.Source.left c.args.source.now) c.in-Ok.lines.items) c.as_slice.ensures.value c.in-Ok.ensures.read in
     (c.in-Ok.lines.items, reads, c.serve.ensures.done same honest stores begins)
 
 pub returns-clause-cut_short : goal.returns-clause-cut_short
 returns-clause-cut_short g c = λ run same honest stores begins.
-    let reads = subst (λ hosts. ReadsTo hosts (g.S.Source.left c.args.source.now) c.in-Ok.lines.items) c.as_slice.ensures.value c.in-Ok.ensures.read in
+    let reads = subst (λ hosts. ReadsTo Whole hosts (g.S.Source.left c.args.source.now) c.in-Ok.lines.items) c.as_slice.ensures.value c.in-Ok.ensures.read in
     (c.in-Ok.lines.items, reads, c.serve.ensures.stopped (subst IsStopped (sym same) tt) honest stores begins)
 
 pub returns-clause-refused : goal.returns-clause-refused
 returns-clause-refused g c = λ run why same honest.
-    let reads = subst (λ hosts. ReadsTo hosts (g.S.Source.left c.args.source.now) c.in-Ok.lines.items) c.as_slice.ensures.value c.in-Ok.ensures.read in
+    let reads = subst (λ hosts. ReadsTo Whole hosts (g.S.Source.left c.args.source.now) c.in-Ok.lines.items) c.as_slice.ensures.value c.in-Ok.ensures.read in
     ⊎_elim (λ none. inl none) (λ power. inr (c.in-Ok.lines.items, reads, power)) (c.serve.ensures.refused why same honest)
 
 pub returns-clause-rule : goal.returns-clause-rule
 returns-clause-rule g c = λ run why same tells.
-    let reads = subst (λ hosts. ReadsTo hosts (g.S.Source.left c.args.source.now) c.in-Ok.lines.items) c.as_slice.ensures.value c.in-Ok.ensures.read in
+    let reads = subst (λ hosts. ReadsTo Whole hosts (g.S.Source.left c.args.source.now) c.in-Ok.lines.items) c.as_slice.ensures.value c.in-Ok.ensures.read in
     ⊎_elim (λ none. inl none) (λ power. inr (c.in-Ok.lines.items, reads, power)) (c.serve.ensures.rule why same tells)
 
 pub returns-clause-answer : goal.returns-clause-answer
@@ -164,12 +166,12 @@ returns-clause-answer g c = c.serve.ensures.answer
 
 pub returns-clause-orders : goal.returns-clause-orders
 returns-clause-orders g c = λ run same.
-    let reads = subst (λ hosts. ReadsTo hosts (g.S.Source.left c.args.source.now) c.in-Ok.lines.items) c.as_slice.ensures.value c.in-Ok.ensures.read in
+    let reads = subst (λ hosts. ReadsTo Whole hosts (g.S.Source.left c.args.source.now) c.in-Ok.lines.items) c.as_slice.ensures.value c.in-Ok.ensures.read in
     (c.in-Ok.lines.items, reads, c.serve.ensures.orders same)
 
 pub returns-clause-first_orders : goal.returns-clause-first_orders
 returns-clause-first_orders g c = λ run.
-    let reads = subst (λ hosts. ReadsTo hosts (g.S.Source.left c.args.source.now) c.in-Ok.lines.items) c.as_slice.ensures.value c.in-Ok.ensures.read in
+    let reads = subst (λ hosts. ReadsTo Whole hosts (g.S.Source.left c.args.source.now) c.in-Ok.lines.items) c.as_slice.ensures.value c.in-Ok.ensures.read in
     inr (c.in-Ok.lines.items, reads, c.serve.ensures.first_orders)
 
 pub returns-clause-refusal : goal.returns-clause-refusal
@@ -186,7 +188,7 @@ returns-clause-write_fault g c = c.serve.ensures.fault
 
 pub returns-clause-cause : goal.returns-clause-cause
 returns-clause-cause g c = λ run same.
-    let reads = subst (λ hosts. ReadsTo hosts (g.S.Source.left c.args.source.now) c.in-Ok.lines.items) c.as_slice.ensures.value c.in-Ok.ensures.read in
+    let reads = subst (λ hosts. ReadsTo Whole hosts (g.S.Source.left c.args.source.now) c.in-Ok.lines.items) c.as_slice.ensures.value c.in-Ok.ensures.read in
     ⊎_elim (λ first. inl first) (λ power. inr (c.in-Ok.lines.items, reads, power)) (c.serve.ensures.cause same)
 
 pub returns-clause-losses : goal.returns-clause-losses

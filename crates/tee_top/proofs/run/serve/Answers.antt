@@ -6,7 +6,7 @@ use Rattle.tee_core.specs.World.{world_of}
 use Rattle.tee_top.specs.BoardLines.{AreFirstWords}
 use Rattle.tee_top.specs.Boards.{HasFirstOrders, HasOrders, orders_of}
 use Rattle.tee_top.specs.Parts.{IsRefusedIn, IsRunOf, StopsIn, point}
-use Rattle.tee_top.specs.Runs.{IsKnown, IsUnopened}
+use Rattle.tee_top.specs.Reading.{IsKnown, IsUnopened}
 use Rattle.tee_top.specs.Transcript.{events_of}
 use Rattle.tee_top.proofs.Leaves.{stands_leaves}
 use Rattle.tee_top.proofs.Losses.{losses_both, losses_none}

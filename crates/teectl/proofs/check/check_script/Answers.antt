@@ -1,7 +1,7 @@
 use Rattle.std.proofs.Common.{Err, ap, subst}
 use Rattle.script.specs.declared.dialect.Dialect.TheVariants.{Whole}
 use Rattle.script.proofs.Places.{not_both}
-use Rattle.tee_top.specs.Runs.{IsReadStatus, ReadsTo}
+use Rattle.tee_top.specs.Reading.{IsReadStatus, ReadsTo}
 use Rattle.tee_top.proofs.Ended.{bad_line_told, script_told, too_long_told, within_for}
 use Rattle.teectl.proofs.Checks.{read_checks}
 use Rattle.teectl.proofs.check.check_script.Goals as goal
@@ -26,7 +26,7 @@ returns-in-Err-clause-read_fault g c = λ e. c.in-Err.ensures.fault (ap Err e)
 
 pub returns-in-Err-clause-each_script : goal.returns-in-Err-clause-each_script
 returns-in-Err-clause-each_script g c = λ words text script readable good.
-    script_told c.args.hosts.now c.requires (g.S.Source.left c.args.source.now) (g.S.Source.failures c.args.source.now) (g.S.Source.failures c.read_script.new.source) text c.in-Err.status script
+    script_told Whole c.args.hosts.now c.requires (g.S.Source.left c.args.source.now) (g.S.Source.failures c.args.source.now) (g.S.Source.failures c.read_script.new.source) text c.in-Err.status script
     (record {
       few = c.in-Err.ensures.few;
       bad = λ k e. (c.in-Err.ensures.bad k (ap Err e)).0;
@@ -37,11 +37,11 @@ returns-in-Err-clause-each_script g c = λ words text script readable good.
 
 pub returns-in-Ok-clause-each_bad_line : goal.returns-in-Ok-clause-each_bad_line
 returns-in-Ok-clause-each_bad_line g c = λ words text n readable bad.
-    absurd (not_both Whole c.args.hosts.now text c.in-Ok.script n c.requires (subst (λ left. ReadsTo c.args.hosts.now left c.in-Ok.script) readable.told c.in-Ok.ensures.read) bad)
+    absurd (not_both Whole c.args.hosts.now text c.in-Ok.script n c.requires (subst (λ left. ReadsTo Whole c.args.hosts.now left c.in-Ok.script) readable.told c.in-Ok.ensures.read) bad)
 
 pub returns-in-Err-clause-each_bad_line : goal.returns-in-Err-clause-each_bad_line
 returns-in-Err-clause-each_bad_line g c = λ words text n readable bad.
-    bad_line_told c.args.hosts.now c.requires (g.S.Source.left c.args.source.now) (g.S.Source.failures c.args.source.now) (g.S.Source.failures c.read_script.new.source) text c.in-Err.status n
+    bad_line_told Whole c.args.hosts.now c.requires (g.S.Source.left c.args.source.now) (g.S.Source.failures c.args.source.now) (g.S.Source.failures c.read_script.new.source) text c.in-Err.status n
     (record {
       few = c.in-Err.ensures.few;
       bad = λ k e. (c.in-Err.ensures.bad k (ap Err e)).0;
@@ -52,12 +52,12 @@ returns-in-Err-clause-each_bad_line g c = λ words text n readable bad.
 
 pub returns-in-Ok-clause-each_too_long : goal.returns-in-Ok-clause-each_too_long
 returns-in-Ok-clause-each_too_long g c = λ words text much.
-    absurd (within_for c.args.hosts.now c.requires (g.S.Source.left c.args.source.now) (g.S.Source.failures c.args.source.now) (g.S.Source.failures c.read_script.new.source) text
+    absurd (within_for Whole c.args.hosts.now c.requires (g.S.Source.left c.args.source.now) (g.S.Source.failures c.args.source.now) (g.S.Source.failures c.read_script.new.source) text
     much.told much.beyond c.in-Ok.ensures.within)
 
 pub returns-in-Err-clause-each_too_long : goal.returns-in-Err-clause-each_too_long
 returns-in-Err-clause-each_too_long g c = λ words text much.
-    too_long_told c.args.hosts.now c.requires (g.S.Source.left c.args.source.now) (g.S.Source.failures c.args.source.now) (g.S.Source.failures c.read_script.new.source) text c.in-Err.status
+    too_long_told Whole c.args.hosts.now c.requires (g.S.Source.left c.args.source.now) (g.S.Source.failures c.args.source.now) (g.S.Source.failures c.read_script.new.source) text c.in-Err.status
     (record {
       few = c.in-Err.ensures.few;
       bad = λ k e. (c.in-Err.ensures.bad k (ap Err e)).0;

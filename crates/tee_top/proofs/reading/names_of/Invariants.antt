@@ -1,6 +1,6 @@
 use Rattle.std.proofs.Common.{◌≡◌, take}
 use Rattle.std.specs.Prelude.{map}
-use Rattle.tee_top.proofs.run.names_of.Given as goal
+use Rattle.tee_top.proofs.reading.names_of.Given as goal
 
 -- the names of the hosts so far
 abbrev pub invariant-loop-host : goal.invariant-loop-host

@@ -1,0 +1,19 @@
+//! Races of whole scripts: rows by hand, scripts by chance with their logs judged, and each status.
+#![tactic(auto)]
+
+pub mod counted;
+#[cfg(test)]
+mod drawn;
+#[cfg(test)]
+mod judged;
+#[cfg(test)]
+mod legal;
+pub mod meeting;
+#[cfg(test)]
+mod racing;
+#[cfg(test)]
+mod rows;
+#[cfg(test)]
+mod statuses;
+#[cfg(test)]
+mod written;
