@@ -210,6 +210,7 @@ pub fn run_tee<S: Source, W: Sink, B: Board + Drop, A: Application>(
         → IsText Whole hosts.items text script
         → (result.0 ≡ Status.Done) ⊎ (result.0 ≡ Status.NoMemory) }
     ensures bad_words { (result.0 ≡ Status.BadWords) ↔ ¬ AreCommandWords words.now }
+    ensures no_log_full { (app : ℕ) → result.0 ≡ Status.LogFull app → ⊥ }
     ensures bad_line { (n : ℕ) → result.0 ≡ Status.BadLine n
         → IsBadAt Whole hosts.items (S.left source.old) n × IsAtEnd (S.left source.new) }
     ensures each_bad_line { (text : List ℕ) (n : ℕ)

@@ -101,6 +101,9 @@ returns-in-Err-clause-refusal g c = λ why e. absurd (subst IsReadStatus e c.in-
 pub returns-in-Err-clause-accepted : goal.returns-in-Err-clause-accepted
 returns-in-Err-clause-accepted g c = λ why e. absurd (subst IsReadStatus e c.in-Err.ensures.few)
 
+pub returns-in-Err-clause-no_log_full : goal.returns-in-Err-clause-no_log_full
+returns-in-Err-clause-no_log_full g c = λ app e. absurd (subst IsReadStatus e c.in-Err.ensures.few)
+
 pub returns-in-Err-clause-refused : goal.returns-in-Err-clause-refused
 returns-in-Err-clause-refused g c = λ run why e. absurd (subst IsReadStatus e c.in-Err.ensures.few)
 
@@ -137,6 +140,9 @@ returns-clause-too_long g c = λ e. absurd (subst IsServed e c.serve.ensures.few
 
 pub returns-clause-read_fault : goal.returns-clause-read_fault
 returns-clause-read_fault g c = λ e. absurd (subst IsServed e c.serve.ensures.few)
+
+pub returns-clause-no_log_full : goal.returns-clause-no_log_full
+returns-clause-no_log_full g c = λ app e. absurd (subst IsServed e c.serve.ensures.few)
 
 pub returns-clause-unfailed : goal.returns-clause-unfailed
 returns-clause-unfailed g c = λ e. absurd (subst IsServed e c.serve.ensures.few)
@@ -222,3 +228,6 @@ returns-then-not-are_run_words-clause-bad_words g c = (
   (λ e. absurd (subst IsServed e c.run_generated.ensures.few)),
   (λ none. absurd (none (inr (c.in-Some.number, (c.gen_number.ensures c.in-Some.number).0 c.in-Some.is)))),
 )
+
+pub returns-then-not-are_run_words-clause-no_log_full : goal.returns-then-not-are_run_words-clause-no_log_full
+returns-then-not-are_run_words-clause-no_log_full g c = λ app e. absurd (subst IsServed e c.run_generated.ensures.few)
