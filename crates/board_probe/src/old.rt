@@ -1,9 +1,9 @@
 //! An image of the first version with full regions, so that what an opening makes of it can be watched and timed.
 use anyhow::Result;
 use board::{BLOCK, Board};
-use old_image::{OldObject, OldRegions, raise_counter, write_image};
 use std::alloc::Global;
 use tee_base::NoMemory;
+use test_old_image::{OldObject, OldRegions, raise_counter, write_image};
 
 /// The sequence of the image, and the counter of its board.
 const SEQUENCE: u64 = 5;

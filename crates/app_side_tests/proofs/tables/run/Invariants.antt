@@ -1,7 +1,0 @@
-use Rattle.std.proofs.Common.{◌≡◌}
-use Rattle.app_side.specs.Represents.{is_lost}
-use Rattle.app_side_tests.proofs.tables.run.Given as goal
-
--- the application knows whether its store is lost
-abbrev pub invariant-loop-row : goal.invariant-loop-row
-invariant-loop-row g l = is_lost l.side ≡ l.store.lost

@@ -1,7 +1,0 @@
-//! Headers on boards in memory, against what an independent implementation of HMAC computed, and each answer of the
-//! opening rule.
-#![tactic(auto)]
-
-pub mod counters;
-#[cfg(test)]
-mod headers;

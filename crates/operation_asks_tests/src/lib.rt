@@ -1,6 +1,0 @@
-//! Tables of asks about operations and random bytes, each with what comes of it: an Ok, each refusal and each misuse.
-#![tactic(auto)]
-
-#[cfg(test)]
-mod asks;
-pub mod given;

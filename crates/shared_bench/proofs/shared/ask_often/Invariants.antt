@@ -1,6 +1,0 @@
--- The pass stays one of the runtime.
-use Rattle.shared_tee.specs.Passes.{IsPassOf}
-use Rattle.shared_bench.proofs.shared.ask_often.Given as goal
-
-abbrev pub invariant-loop : goal.invariant-loop
-invariant-loop g l = IsPassOf l.tee l.pass

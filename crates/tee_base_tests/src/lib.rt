@@ -1,6 +1,0 @@
-//! Streams that fail once, and the source and the sink over them.
-#![tactic(auto)]
-
-pub mod calls;
-#[cfg(test)]
-mod streams;

@@ -1,6 +1,0 @@
-//! A cell that two seats share, in one thread and in two.
-#![tactic(auto)]
-
-pub mod tally;
-#[cfg(test)]
-mod turns;
