@@ -1,3 +1,4 @@
+pub mod AgreeLemmas
 pub mod FramedLemmas
 pub mod GroupLemmas
 pub mod NewLemmas

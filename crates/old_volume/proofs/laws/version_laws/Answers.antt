@@ -1,3 +1,4 @@
+use Rattle.old_volume.proofs.AgreeLemmas.{both_commits, both_mounted, tree_mounted}
 use Rattle.old_volume.proofs.FramedLemmas.{volume_format, volume_framed}
 use Rattle.old_volume.proofs.OldLemmas.{keeps_stores}
 use Rattle.old_volume.proofs.laws.version_laws.Goals as goal
