@@ -6,12 +6,12 @@ use Rattle.epoch.specs.Commits.{IsBegun}
 use Rattle.epoch.specs.Mounts.{IsKeptFromOpening}
 use Rattle.tree_commits.specs.Change.{FitsTree}
 use Rattle.tree_paths.specs.Form.{form_root, tree_form}
-use Rattle.old_volume.specs.Versions.{volume_form}
+use Rattle.v1_volume.specs.Versions.{volume_form}
 use Rattle.tree_volume.specs.Opens.{IsOpenAs, held_after}
 use Rattle.epoch.specs.declared.taking.TheConstants.{NO_ROOT}
 use Rattle.epoch.specs.Forms.{IsBlankRoot}
-use Rattle.old_volume.proofs.AgreeLemmas.{both_commits, tree_mounted}
-use Rattle.old_volume.proofs.FramedLemmas.{volume_framed}
+use Rattle.v1_volume.proofs.AgreeLemmas.{both_commits, tree_mounted}
+use Rattle.v1_volume.proofs.FramedLemmas.{volume_framed}
 use Rattle.epoch.proofs.OpenLemmas.{blank_root, format_failed, opens_without}
 use Rattle.tree_volume.proofs.OpenLemmas.{format_done}
 use Rattle.tree_volume.proofs.VolumeLemmas.{blank_fits}

@@ -14,9 +14,9 @@ use Rattle.epoch.proofs.PastLemmas.{followed}
 use Rattle.epoch.proofs.SettledLemmas.{steady_rests}
 use Rattle.tree_commits.specs.Change.{FitsTree}
 use Rattle.tree_paths.specs.Form.{form_root, tree_form}
-use Rattle.old_volume.specs.Versions.{volume_form}
-use Rattle.old_volume.proofs.AgreeLemmas.{both_commits, tree_mounted}
-use Rattle.old_volume.proofs.FramedLemmas.{volume_framed}
+use Rattle.v1_volume.specs.Versions.{volume_form}
+use Rattle.v1_volume.proofs.AgreeLemmas.{both_commits, tree_mounted}
+use Rattle.v1_volume.proofs.FramedLemmas.{volume_framed}
 use Rattle.epoch.specs.Forms.{Root}
 use Rattle.epoch.specs.declared.header.TreeEntry.{TreeEntry}
 use Rattle.tree_commits.specs.Gather.{leaf_among}
