@@ -3,7 +3,7 @@ ghost use Rattle.std.specs.Prelude.{◌≡◌, ◌⊎◌, ◌-◌, ◌^◌, not}
 ghost use Rattle.tee_base.specs.Faults.{Rose};
 ghost use Rattle.store_api.specs.declared.leaves.LeafAnswer.TheVariants as answers;
 ghost use Rattle.board.specs.Fuse.{fuse_after_call};
-ghost use Rattle.board.specs.Steps.{CallRun};
+ghost use Rattle.board.specs.Steps.{CallRun, SameBlocks};
 ghost use Rattle.epoch.specs.Alone.{StaysAlone};
 ghost use Rattle.epoch.specs.Forms.{Form, IsFramed, Root};
 ghost use Rattle.epoch.specs.Keeping.{Exhausts, IsInUse};
@@ -23,6 +23,8 @@ pub fn exhaust<B: Board>(board: &mut B) -> LeafAnswer
     // no block is written
     ensures honest { B.honest board.old → B.honest board.new
         × StaysAlone (λ k. Unit {0}) (B.view board.old) (B.view board.new) }
+    ensures blocks { B.honest board.old
+        → SameBlocks (B.view board.old).state (B.view board.new).state }
     ensures failed { B.honest board.old → (f : Form) (root : Root) → IsFramed f
         → IsInUse f (B.view board.old) root (2 ^ 64 - 1)
         → Exhausts f root result (B.view board.old) (B.view board.new) }

@@ -4,7 +4,7 @@ use Rattle.board.specs.Moment.{View, IsCounter}
 use Rattle.board.specs.declared.Board.{Ghosts}
 use Rattle.epoch.specs.Mounts.{IsKeptFromOpening, IsRefusal}
 use Rattle.epoch.specs.Opening.{header_answer, opens_as}
-use Rattle.old_volume.specs.Versions.{volume_form}
+use Rattle.v1_volume.specs.Versions.{volume_form}
 use Rattle.tree_volume.specs.Keepers.{tree_keeper}
 use Rattle.inspect.specs.declared.opening.Opened.{Opened}
 use Rattle.inspect.specs.declared.opening.Unread.{Unread}

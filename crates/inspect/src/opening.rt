@@ -6,17 +6,17 @@ ghost use Rattle.board.specs.Runs.{Rests};
 ghost use Rattle.epoch.specs.Forms.{held_in};
 ghost use Rattle.inspect.specs.Openings.{IsFoundSound, IsUnread, found_by};
 ghost use Rattle.store_api.specs.Volumes.{Held};
-ghost use Rattle.old_volume.specs.Versions.{volume_form};
+ghost use Rattle.v1_volume.specs.Versions.{volume_form};
 ghost use Rattle.tree_paths.specs.declared.places.TheConstants.{TREE_BLOCKS};
 ghost use Rattle.tree_volume.specs.Keepers.{tree_keeper};
 
 use board::Board;
 use epoch::{BoardVolume, OpenAnswer, mount};
-use old_volume::VERSIONS;
 use std::alloc::Global;
 use store_api::Volume;
 use tree_paths::places::TREE_VERSION;
 use tree_volume::TreeVolume;
+use v1_volume::VERSIONS;
 
 /// What the header that counts and the counter say of a volume.
 #[derive(Clone, Copy, Debug, PartialEq, Eq)]

@@ -2,12 +2,12 @@
 
 use super::memory::{Byte, Memory, OBJECTS, commit, set, with};
 use super::reading::{IN_ORDER, TWO, go_through};
-use region_convert::{check, convert};
 use region_plan::Form;
 use std::alloc::Global;
 use std::process::Abort;
 use store_api::StoreAnswer;
 use tee_base::NoMemory;
+use v1_volume::{check, convert};
 
 /// What is told of two objects in the first form, where these bytes are set besides.
 fn refusal(alloc: Global, bytes: &[Byte]) -> Result<Option<StoreAnswer>, NoMemory> {

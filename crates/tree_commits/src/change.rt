@@ -5,9 +5,8 @@ ghost use Rattle.store_api.specs.Ascending.{is_above_all};
 ghost use Rattle.store_api.specs.Volumes.{with_named_leaves};
 ghost use Rattle.seal.specs.Keys.{AreKeysOf};
 ghost use Rattle.tree_commits.specs.Change.{FitsTree, tree_still_fits};
-ghost use Rattle.tree_paths.specs.Form.{form_root};
-ghost use Rattle.old_volume.specs.Versions.{volume_form};
-ghost use Rattle.old_volume.proofs.FramedLemmas.{volume_framed};
+ghost use Rattle.tree_paths.specs.Form.{form_root, tree_form};
+ghost use Rattle.tree_paths.specs.Frame.{form_framed};
 ghost use Rattle.tree_commits.specs.Gather.{AreGathered, AreGathered-prop};
 ghost use Rattle.tree_commits.specs.Sealed.{AreSealed};
 ghost use Rattle.tree_paths.specs.declared.places.TheConstants.{DEPTH, FIRST_BLOCK, REGION_LEAVES};
@@ -37,7 +36,7 @@ pub struct TreeChange<'a> {
 }
 
 impl Change for TreeChange<'_> {
-    ghost form = { volume_form };
+    ghost form = { tree_form };
 
     ghost root = { λ c. form_root c.root };
 
@@ -55,7 +54,7 @@ impl Change for TreeChange<'_> {
 
     ghost untouched = { λ k. k < FIRST_BLOCK };
 
-    ghost framed = { volume_framed };
+    ghost framed = { form_framed };
 
     ghost still_fits = { λ c key base image same fits. tree_still_fits c.keys.now c.touched c.region c.leaves.now c.root key base image same fits };
 

@@ -17,17 +17,17 @@ use Rattle.epoch.specs.declared.header.Header.{Header}
 use Rattle.epoch.specs.declared.header.TreeEntry.{TreeEntry}
 use Rattle.epoch.specs.declared.taking.TheConstants.{NO_ROOT}
 use Rattle.epoch.proofs.OpenLemmas.{after_other, after_written, blank_root, formatted, in_use_with, leaves_format, mounted_written, rests_so}
-use Rattle.migration.specs.Migrating.{Migrates, taken_over}
+use Rattle.v1_volume.specs.Migrating.{Migrates, taken_over}
 use Rattle.tree_paths.specs.Form.{form_root}
 use Rattle.tree_paths.specs.Shape.{first_shape}
 use Rattle.tree_paths.specs.Tree.{on_image}
-use Rattle.old_volume.specs.Answers.{open_answer}
-use Rattle.old_volume.specs.Old.{old_refusal}
-use Rattle.old_volume.specs.Versions.{old_root, volume_form}
-use Rattle.old_volume.specs.declared.answer.OldAnswer.{OldAnswer}
-use Rattle.old_volume.specs.declared.answer.OldAnswer.TheVariants as old_answers
-use Rattle.old_volume.specs.declared.versions.TheConstants.{VERSIONS}
-use Rattle.old_volume.proofs.FramedLemmas.{volume_framed}
+use Rattle.v1_volume.specs.Answers.{open_answer}
+use Rattle.v1_volume.specs.Old.{old_refusal}
+use Rattle.v1_volume.specs.Versions.{old_root, volume_form}
+use Rattle.v1_volume.specs.declared.answer.OldAnswer.{OldAnswer}
+use Rattle.v1_volume.specs.declared.answer.OldAnswer.TheVariants as old_answers
+use Rattle.v1_volume.specs.declared.versions.TheConstants.{VERSIONS}
+use Rattle.v1_volume.proofs.FramedLemmas.{volume_framed}
 use Rattle.tree_volume.specs.Keeping.{IsOpen, held_now}
 use Rattle.tree_volume.specs.Opens.{Opens}
 use Rattle.tree_volume.specs.declared.volume.Opened.{Opened}

@@ -16,10 +16,10 @@ use Rattle.epoch.proofs.AdmitLemmas.{found_by_rule, now_refused, refused_over}
 use Rattle.epoch.proofs.OpenLemmas.{refused_or_kept, ruled_found}
 use Rattle.epoch.proofs.RuleLemmas.{opens_at_two}
 use Rattle.tree_paths.specs.Form.{form_root}
-use Rattle.old_volume.specs.Answers.{is_of_image, no_fault, open_answer}
-use Rattle.old_volume.specs.Versions.{volume_form}
-use Rattle.old_volume.specs.declared.answer.OldAnswer.{OldAnswer}
-use Rattle.old_volume.specs.declared.answer.OldAnswer.TheVariants as old
+use Rattle.v1_volume.specs.Answers.{is_of_image, no_fault, open_answer}
+use Rattle.v1_volume.specs.Versions.{volume_form}
+use Rattle.v1_volume.specs.declared.answer.OldAnswer.{OldAnswer}
+use Rattle.v1_volume.specs.declared.answer.OldAnswer.TheVariants as old
 use Rattle.tree_volume.specs.Taking.{TakesByForm}
 use Rattle.tree_volume.specs.declared.volume.Opened.{Opened}
 

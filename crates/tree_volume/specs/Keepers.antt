@@ -8,7 +8,7 @@ use Rattle.epoch.specs.Commits.{IsSteady}
 use Rattle.epoch.specs.Forms.{held_of}
 use Rattle.tree_paths.specs.declared.places.TheConstants.{REGION_LEAVES}
 use Rattle.tree_paths.specs.Form.{form_root}
-use Rattle.old_volume.specs.Versions.{volume_form}
+use Rattle.v1_volume.specs.Versions.{volume_form}
 use Rattle.tree_volume.specs.Keeping.{IsAnew, IsOpen, damage_now, held_now, text_now}
 use Rattle.tree_volume.specs.declared.volume.TreeVolume.{TreeVolume}
 

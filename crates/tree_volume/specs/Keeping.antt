@@ -15,7 +15,7 @@ use Rattle.epoch.specs.declared.header.TreeEntry.{TreeEntry}
 use Rattle.tree_paths.specs.declared.places.TheConstants.{REGION_LEAVES, TREE_VERSION}
 use Rattle.tree_volume.specs.declared.volume.Opened.{Opened}
 use Rattle.tree_paths.specs.Form.{form_root}
-use Rattle.old_volume.specs.Versions.{volume_form}
+use Rattle.v1_volume.specs.Versions.{volume_form}
 use Rattle.tree_paths.specs.Shape.{shape}
 use Rattle.tree_paths.specs.Tree.{damage_of, on_image}
 use Rattle.tee_base.specs.Words.{Sequence}

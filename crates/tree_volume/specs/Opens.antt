@@ -6,7 +6,7 @@ use Rattle.board.specs.Moment.{View}
 use Rattle.epoch.specs.Opens.{Opens as OpensAs}
 use Rattle.epoch.specs.declared.answer.OpenAnswer.{OpenAnswer}
 use Rattle.epoch.specs.declared.taking.TheConstants.{NO_ROOT}
-use Rattle.old_volume.specs.Versions.{volume_form}
+use Rattle.v1_volume.specs.Versions.{volume_form}
 use Rattle.tree_volume.specs.Keeping.{IsOpen, held_now}
 use Rattle.tree_commits.specs.declared.touched.Node.{Node}
 use Rattle.tree_volume.specs.declared.volume.Opened.{Opened}

@@ -9,7 +9,7 @@ use Rattle.epoch.specs.declared.header.TreeEntry.{TreeEntry}
 use Rattle.epoch.proofs.CommitLemmas.{leaf_below, region_below, sealed_each}
 use Rattle.tree_paths.specs.declared.places.TheConstants.{REGION_LEAVES}
 use Rattle.tree_paths.specs.Form.{form_root}
-use Rattle.old_volume.specs.Versions.{volume_form}
+use Rattle.v1_volume.specs.Versions.{volume_form}
 use Rattle.tree_volume.specs.Keeping.{IsOpen, damage_now, text_now}
 use Rattle.tree_paths.specs.Shape.{shape}
 use Rattle.tree_paths.specs.Tree.{damage_of, on_image}

@@ -12,7 +12,7 @@ ghost use Rattle.epoch.specs.Mounting.{MountsTo, after_again, after_found, after
 ghost use Rattle.epoch.specs.Mounts.{IsAdmitted, IsFound, IsKeptFromOpening, IsRefusal, IsRefusalOver, IsRefusedNow, TakesUp};
 ghost use Rattle.epoch.specs.Reopening.{reopened_of, sequence_after};
 ghost use Rattle.epoch.specs.Formats.{IsAccepted, accepts};
-ghost use Rattle.old_volume.specs.Answers.{open_answer};
+ghost use Rattle.v1_volume.specs.Answers.{open_answer};
 ghost use Rattle.epoch.specs.Opening.{no_failure};
 ghost use Rattle.epoch.specs.Past.{KeepsPast};
 ghost use Rattle.epoch.specs.declared.answer.OpenAnswer.TheVariants as refusals;
@@ -20,7 +20,7 @@ ghost use Rattle.node_cache.specs.Kept.{HoldsNothing};
 ghost use Rattle.seal.specs.Keys.{AreKeysOf};
 ghost use Rattle.tree_paths.specs.declared.places.TheConstants.{FIRST_BLOCK};
 ghost use Rattle.tree_paths.specs.Form.{form_root};
-ghost use Rattle.old_volume.specs.Versions.{volume_form};
+ghost use Rattle.v1_volume.specs.Versions.{volume_form};
 ghost use Rattle.tree_volume.specs.Soundness.{damage_formed, text_formed};
 ghost use Rattle.tree_volume.specs.Opens.{IsBlankNode, Opens};
 ghost use Rattle.tree_volume.specs.Taking.{Takes, TakesByForm, TakesHonestly};
@@ -31,13 +31,12 @@ use epoch::{
     BLANK, BoardVolume, FORMATTED, Header, NO_ROOT, OpenAnswer, Reopened, Unopened, commit, mount,
     mount_after_power, mount_again, reopened_from,
 };
-use migration::migrate;
-use old_volume::{OldAnswer, VERSIONS};
 use seal::Keys;
 use std::alloc::Global;
 use tree_commits::{Node, Touched, TreeChange};
 use tree_paths::Nodes;
 use tree_paths::places::{TREE_BLOCKS, TREE_VERSION};
+use v1_volume::{OldAnswer, VERSIONS, migrate};
 
 /// Opens a board; one that is blank is formatted, and a volume of version 1 is taken over.
 fn open_board<B: Board>(alloc: Global, board: &mut B, keys: &Keys) -> Result<Opened, OpenAnswer>

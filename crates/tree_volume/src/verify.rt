@@ -4,7 +4,7 @@ ghost use Rattle.tee_base.specs.Faults.{Rose};
 ghost use Rattle.board.specs.Steps.{CallRun};
 ghost use Rattle.epoch.specs.Forms.{is_sealed};
 ghost use Rattle.tree_paths.specs.Form.{form_root};
-ghost use Rattle.old_volume.specs.Versions.{volume_form};
+ghost use Rattle.v1_volume.specs.Versions.{volume_form};
 ghost use Rattle.tree_paths.specs.Shape.{shape};
 ghost use Rattle.tree_paths.specs.Tree.{on_image};
 ghost use Rattle.tree_paths.specs.Walk.{children, visits};

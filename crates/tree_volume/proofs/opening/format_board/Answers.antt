@@ -5,12 +5,13 @@ use Rattle.epoch.proofs.CallLemmas.{run_as, run_failed, run_none}
 use Rattle.epoch.specs.Commits.{IsBegun}
 use Rattle.epoch.specs.Mounts.{IsKeptFromOpening}
 use Rattle.tree_commits.specs.Change.{FitsTree}
-use Rattle.tree_paths.specs.Form.{form_root}
-use Rattle.old_volume.specs.Versions.{volume_form}
+use Rattle.tree_paths.specs.Form.{form_root, tree_form}
+use Rattle.v1_volume.specs.Versions.{volume_form}
 use Rattle.tree_volume.specs.Opens.{IsOpenAs, held_after}
 use Rattle.epoch.specs.declared.taking.TheConstants.{NO_ROOT}
 use Rattle.epoch.specs.Forms.{IsBlankRoot}
-use Rattle.old_volume.proofs.FramedLemmas.{volume_framed}
+use Rattle.v1_volume.proofs.AgreeLemmas.{both_commits, tree_mounted}
+use Rattle.v1_volume.proofs.FramedLemmas.{volume_framed}
 use Rattle.epoch.proofs.OpenLemmas.{blank_root, format_failed, opens_without}
 use Rattle.tree_volume.proofs.OpenLemmas.{format_done}
 use Rattle.tree_volume.proofs.VolumeLemmas.{blank_fits}
@@ -32,24 +33,24 @@ returns-in_err-root-clause-opens g c honest h mounts =
     let kept : IfErr c.from_residual-in_err-root.result (λ why. IsKeptFromOpening why) = search rules in
     format_failed volume_form IsOpenAs held_after v (g.B.Board.view c.commit.new.board) c.from_residual-in_err-root.result h
     c.from_residual-in_err-root.ensures.0 kept
-    (c.in_err-root.ensures.commits honest h (record {
+    (both_commits _ NO_ROOT h _ _ v (g.B.Board.view c.commit.new.board) (c.in_err-root.ensures.commits honest h (record {
       last = mounts.0;
-      mounted = mounts.1 (form_root NO_ROOT) blank;
+      mounted = tree_mounted v.key NO_ROOT h v.state (mounts.1 (form_root NO_ROOT) blank);
       fits = blank_fits c.args.keys.now c.in_ok-blank_node.field-0 v.key v.state.reads keyed c.in_ok-blank_node.ensures.node;
-    })).crash
+    }))).crash
 
 pub returns-clause-opens : goal.returns-clause-opens
 returns-clause-opens g c honest h mounts =
     let v = g.B.Board.view c.args.board.now in
     let keyed : AreKeysOf c.args.keys.now v.key = c.requires.keyed in
-    let mounted = mounts.1 (form_root NO_ROOT) blank in
-    let begun : IsBegun volume_form (λ key reads. FitsTree c.args.keys.now c.in_ok-blank_node.field-0 0 [] NO_ROOT key reads) v (form_root NO_ROOT) 0 h = record {
+    let mounted = tree_mounted v.key NO_ROOT h v.state (mounts.1 (form_root NO_ROOT) blank) in
+    let begun : IsBegun tree_form (λ key reads. FitsTree c.args.keys.now c.in_ok-blank_node.field-0 0 [] NO_ROOT key reads) v (form_root NO_ROOT) 0 h = record {
       last = mounts.0;
       mounted = mounted;
       fits = blank_fits c.args.keys.now c.in_ok-blank_node.field-0 v.key v.state.reads keyed c.in_ok-blank_node.ensures.node;
     } in
-    format_done v (g.B.Board.view c.commit.new.board) c.in_ok-root.root h mounts.0 c.in_ok-root.ensures.calls.key (c.in_ok-root.ensures.commits honest h begun).crash
-    (c.in_ok-root.ensures.commits honest h begun).done.0
+    let commits = both_commits _ NO_ROOT h _ _ v (g.B.Board.view c.commit.new.board) (c.in_ok-root.ensures.commits honest h begun) in
+    format_done v (g.B.Board.view c.commit.new.board) c.in_ok-root.root h mounts.0 c.in_ok-root.ensures.calls.key commits.crash commits.done.0
 
 pub returns-in_err-blank_node-clause-calls : goal.returns-in_err-blank_node-clause-calls
 returns-in_err-blank_node-clause-calls g c = run_as true _ _ _ (search rules) (run_none _)

@@ -8,7 +8,7 @@ use Rattle.epoch.proofs.AloneLemmas.{alone_none}
 use Rattle.epoch.proofs.CallLemmas.{run_none}
 use Rattle.epoch.proofs.PastLemmas.{itself}
 use Rattle.tree_paths.specs.Form.{form_root}
-use Rattle.old_volume.specs.Versions.{volume_form}
+use Rattle.v1_volume.specs.Versions.{volume_form}
 use Rattle.tree_volume.specs.Opens.{Opens}
 use Rattle.tree_volume.specs.Taking.{Takes, TakesByForm, TakesHonestly}
 use Rattle.tree_volume.proofs.OpenLemmas.{opens_blank}

@@ -7,10 +7,10 @@ use Rattle.epoch.proofs.AloneLemmas.{alone_none}
 use Rattle.epoch.proofs.PastLemmas.{itself}
 use Rattle.tree_paths.specs.Shape.{first_shape}
 use Rattle.tree_paths.specs.Tree.{Look, on_image}
-use Rattle.old_volume.specs.Answers.{open_answer}
-use Rattle.old_volume.specs.Old.{old_refusal}
-use Rattle.old_volume.specs.Versions.{volume_form}
-use Rattle.old_volume.proofs.RefusalLemmas.{refused_told, taken_told}
+use Rattle.v1_volume.specs.Answers.{open_answer}
+use Rattle.v1_volume.specs.Old.{old_refusal}
+use Rattle.v1_volume.specs.Versions.{volume_form}
+use Rattle.v1_volume.proofs.RefusalLemmas.{refused_told, taken_told}
 use Rattle.tree_volume.proofs.OpenLemmas.{mounted_old, not_old, opens_written, refusal_old}
 use Rattle.tree_volume.proofs.TakeLemmas.{is_two, not_two, told_image}
 use Rattle.tree_volume.proofs.opening.take_header.Goals as goal

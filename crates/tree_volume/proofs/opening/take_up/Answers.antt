@@ -4,7 +4,7 @@ use Rattle.epoch.specs.Mounts.{TakesUp}
 use Rattle.epoch.specs.declared.header.Header.{Header}
 use Rattle.epoch.proofs.OpenLemmas.{opens_none}
 use Rattle.tree_paths.specs.Form.{form_root}
-use Rattle.old_volume.specs.Versions.{volume_form}
+use Rattle.v1_volume.specs.Versions.{volume_form}
 use Rattle.tree_volume.specs.Opens.{IsOpenAs, Opens, held_after}
 use Rattle.tree_volume.specs.Taking.{Takes, TakesByForm, TakesHonestly}
 use Rattle.tree_volume.proofs.OpenLemmas.{takes_none}

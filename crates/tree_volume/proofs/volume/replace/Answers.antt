@@ -13,9 +13,10 @@ use Rattle.epoch.proofs.KeepLemmas.{commit_crash, held_same, in_use_same, leaves
 use Rattle.epoch.proofs.PastLemmas.{followed}
 use Rattle.epoch.proofs.SettledLemmas.{steady_rests}
 use Rattle.tree_commits.specs.Change.{FitsTree}
-use Rattle.tree_paths.specs.Form.{form_root}
-use Rattle.old_volume.specs.Versions.{volume_form}
-use Rattle.old_volume.proofs.FramedLemmas.{volume_framed}
+use Rattle.tree_paths.specs.Form.{form_root, tree_form}
+use Rattle.v1_volume.specs.Versions.{volume_form}
+use Rattle.v1_volume.proofs.AgreeLemmas.{both_commits, tree_mounted}
+use Rattle.v1_volume.proofs.FramedLemmas.{volume_framed}
 use Rattle.epoch.specs.Forms.{Root}
 use Rattle.epoch.specs.declared.header.TreeEntry.{TreeEntry}
 use Rattle.tree_commits.specs.Gather.{leaf_among}
@@ -125,11 +126,12 @@ returns-in-Ok-clause-replaced g c h is =
     } in
     let is' : IsOpen mid root sequence = in_use_same volume_form volume_framed v mid (form_root root) sequence told.calls.key read.1.state is in
     let before : Held = held_now mid root sequence in
-    let begins : IsBegun volume_form (λ key reads. FitsTree c.args.keys.now touched c.args.region leaves root key reads) mid (form_root root) sequence before
-    = record { last = refl; mounted = is'; fits = fits } in
+    let begins : IsBegun tree_form (λ key reads. FitsTree c.args.keys.now touched c.args.region leaves root key reads) mid (form_root root) sequence before
+    = record { last = refl; mounted = tree_mounted mid.key root before mid.state is'; fits = fits } in
     let after : Held = after_commit c.args.region leaves before in
     let held = held_same volume_form volume_framed v mid (form_root root) sequence told.calls.key read.1.state.reads in
-    let done = (c.in-Ok.ensures.commits read.0 before begins).done in
+    let commits = both_commits (λ key reads. Unit {0}) root before after _ mid new (c.in-Ok.ensures.commits read.0 before begins) in
+    let done = commits.done in
     subst (λ (l : List Leaf). Replaces c.args.region l (Ok (record { root = c.in-Ok.root; sequence = sequence + 1 })) c.args.opened v new) c.as_slice-2.ensures.leaves (record {
       undamaged = tt;
       stays = mounted_in_use volume_form volume_framed new mid.key (form_root c.in-Ok.root) after c.in-Ok.ensures.calls.key done.0;
@@ -138,7 +140,7 @@ returns-in-Ok-clause-replaced g c h is =
         mounted_held volume_form volume_framed new mid.key (form_root c.in-Ok.root) after c.in-Ok.ensures.calls.key done.0 ∙ ap (after_commit c.args.region leaves) held,
         refl,
       );
-      crash = commit_crash volume_form volume_framed v mid new (form_root root) sequence c.args.region leaves is told.calls.key read.1 (c.in-Ok.ensures.commits read.0 before begins).crash;
+      crash = commit_crash volume_form volume_framed v mid new (form_root root) sequence c.args.region leaves is told.calls.key read.1 commits.crash;
     })
 
 pub returns-clause-replaced : goal.returns-clause-replaced
@@ -162,16 +164,17 @@ returns-clause-replaced g c h is =
     } in
     let is' : IsOpen mid root sequence = in_use_same volume_form volume_framed v mid (form_root root) sequence told.calls.key read.1.state is in
     let before : Held = held_now mid root sequence in
-    let begins : IsBegun volume_form (λ key reads. FitsTree c.args.keys.now touched c.args.region leaves root key reads) mid (form_root root) sequence before
-    = record { last = refl; mounted = is'; fits = fits } in
+    let begins : IsBegun tree_form (λ key reads. FitsTree c.args.keys.now touched c.args.region leaves root key reads) mid (form_root root) sequence before
+    = record { last = refl; mounted = tree_mounted mid.key root before mid.state is'; fits = fits } in
     let after : Held = after_commit c.args.region leaves before in
     let held = held_same volume_form volume_framed v mid (form_root root) sequence told.calls.key read.1.state.reads in
+    let commits = both_commits (λ key reads. Unit {0}) root before after _ mid new (c.in-Err.ensures.commits read.0 before begins) in
     subst (λ (l : List Leaf). Replaces c.args.region l (Err answers.Failed) c.args.opened v new) c.as_slice-2.ensures.leaves (record {
       undamaged = tt;
       stays = tt;
-      steady = subst (λ (k : List ℕ). IsSteady volume_form k (form_root root) new.state) (sym c.in-Err.ensures.calls.key) (c.in-Err.ensures.commits read.0 before begins).steady;
-      commits = leaves_held volume_form volume_framed new mid.key (form_root root) before c.in-Err.ensures.calls.key (c.in-Err.ensures.commits read.0 before begins).kept refl ∙ held;
-      crash = commit_crash volume_form volume_framed v mid new (form_root root) sequence c.args.region leaves is told.calls.key read.1 (c.in-Err.ensures.commits read.0 before begins).crash;
+      steady = subst (λ (k : List ℕ). IsSteady volume_form k (form_root root) new.state) (sym c.in-Err.ensures.calls.key) commits.steady;
+      commits = leaves_held volume_form volume_framed new mid.key (form_root root) before c.in-Err.ensures.calls.key commits.kept refl ∙ held;
+      crash = commit_crash volume_form volume_framed v mid new (form_root root) sequence c.args.region leaves is told.calls.key read.1 commits.crash;
     })
 
 pub returns-in_err-touched-clause-alone : goal.returns-in_err-touched-clause-alone

@@ -1,11 +1,8 @@
 use Rattle.std.proofs.Common.{◌<◌, ◌∙◌, ℕ, true, refl, sym}
-use Rattle.store_api.specs.Volumes.{with_named_leaves}
 use Rattle.epoch.proofs.AloneLemmas.{alone_run}
 use Rattle.epoch.specs.Commits.{spare}
 use Rattle.epoch.proofs.SettledLemmas.{settled_run, settled_starts}
-use Rattle.tree_paths.specs.Form.{form_root}
-use Rattle.old_volume.specs.Versions.{volume_form}
-use Rattle.old_volume.proofs.NewLemmas.{new_sealed, new_written}
+use Rattle.tree_paths.specs.Form.{form_root, tree_form}
 use Rattle.tree_paths.specs.Shape.{shape}
 use Rattle.tree_commits.specs.Touched.{AreSpare}
 use Rattle.tree_paths.specs.Shapes.{is_shape}
@@ -16,23 +13,22 @@ pub returns-clause-written : goal.returns-clause-written
 returns-clause-written g c h fits sealed =
     let v = g.B.Board.view c.args.board.now in
     let w = c.in_ok-self.ensures in
-    new_written v.key v.state.reads _ c.args.self.now.root _ (with_named_leaves c.args.self.now.region c.args.self.now.leaves.now)
-    (tree_written v.key v.state.reads _ c.args.self.now.keys.now c.args.self.now.touched c.args.self.now.region c.args.self.now.leaves.now c.args.self.now.root _
-    c.args.self.now.within c.args.self.now.inside fits (sym (new_sealed v.key v.state.reads c.args.self.now.root) ∙ sealed)
-    (w.damage h fits.ordered v.key fits.keyed c.args.self.now.root) (w.text h fits.ordered v.key fits.keyed c.args.self.now.root))
+    tree_written v.key v.state.reads _ c.args.self.now.keys.now c.args.self.now.touched c.args.self.now.region c.args.self.now.leaves.now c.args.self.now.root _
+    c.args.self.now.within c.args.self.now.inside fits sealed
+    (w.damage h fits.ordered v.key fits.keyed c.args.self.now.root) (w.text h fits.ordered v.key fits.keyed c.args.self.now.root)
 
 pub returns-in_err-self-clause-run : goal.returns-in_err-self-clause-run
 returns-in_err-self-clause-run g c h slot low high first fits run =
     let v = g.B.Board.view c.args.board.now in
     let root = c.args.self.now.root in
-    c.in_err-self.ensures.run h (spare volume_form v.key v.state.reads (form_root root) slot) v.state.reads low high first
+    c.in_err-self.ensures.run h (spare tree_form v.key v.state.reads (form_root root) slot) v.state.reads low high first
     (nodes_spare shape is_shape v.key v.state.reads root slot c.args.self.now.touched fits.stands.copies) run
 
 pub returns-clause-run : goal.returns-clause-run
 returns-clause-run g c h slot low high first fits run =
     let v = g.B.Board.view c.args.board.now in
     let root = c.args.self.now.root in
-    c.in_ok-self.ensures.run h (spare volume_form v.key v.state.reads (form_root root) slot) v.state.reads low high first
+    c.in_ok-self.ensures.run h (spare tree_form v.key v.state.reads (form_root root) slot) v.state.reads low high first
     (nodes_spare shape is_shape v.key v.state.reads root slot c.args.self.now.touched fits.stands.copies) run
 
 pub returns-clause-counter : goal.returns-clause-counter

@@ -6,8 +6,8 @@ use Rattle.board.specs.Moment.{moment, left_since}
 use Rattle.epoch.proofs.KeepLemmas.{crash_read, err_cause, err_undamaged, foundation_same, held_same, in_use_same, past_read, steady_read, unless_failed}
 use Rattle.epoch.specs.Forms.{held_of}
 use Rattle.tree_paths.specs.Form.{form_root}
-use Rattle.old_volume.specs.Versions.{volume_form}
-use Rattle.old_volume.proofs.FramedLemmas.{volume_framed}
+use Rattle.v1_volume.specs.Versions.{volume_form}
+use Rattle.v1_volume.proofs.FramedLemmas.{volume_framed}
 use Rattle.tree_volume.specs.Keeping.{held_now}
 use Rattle.tree_volume.proofs.AnewLemmas.{anew_open}
 use Rattle.tree_volume.specs.Soundness.{sound_open}

@@ -1,3 +1,0 @@
-pub mod MigrateLemmas
-pub mod PlantLemmas
-pub mod WrittenLemmas

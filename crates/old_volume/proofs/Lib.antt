@@ -1,6 +1,0 @@
-pub mod FramedLemmas
-pub mod GroupLemmas
-pub mod NewLemmas
-pub mod OldLemmas
-pub mod ReadLemmas
-pub mod RefusalLemmas

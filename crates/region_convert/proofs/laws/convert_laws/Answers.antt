@@ -1,5 +1,0 @@
-use Rattle.region_convert.proofs.ConvertedLemmas.{converted_stands}
-use Rattle.region_convert.proofs.laws.convert_laws.Goals as goal
-
-pub returns : goal.returns
-returns c leaves store is = converted_stands leaves store is

@@ -1,0 +1,15 @@
+pub mod AgreeLemmas
+pub mod CheckedLemmas
+pub mod ConvertedLemmas
+pub mod FramedLemmas
+pub mod GroupLemmas
+pub mod MigrateLemmas
+pub mod MovedLemmas
+pub mod NewLemmas
+pub mod OldLemmas
+pub mod OldRegionLemmas
+pub mod PlantLemmas
+pub mod RangeLemmas
+pub mod ReadLemmas
+pub mod RefusalLemmas
+pub mod WrittenLemmas

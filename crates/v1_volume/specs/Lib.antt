@@ -1,0 +1,9 @@
+pub mod Answers
+pub mod Checking
+pub mod Fitting
+pub mod Laws
+pub mod Migrating
+pub mod Old
+pub mod Planting
+pub mod Renumbering
+pub mod Versions
