@@ -3,7 +3,7 @@ use Rattle.std.proofs.Common.{◌≡◌, ◌<◌, ◌≤◌, ◌+◌, ◌++◌, 
 use Rattle.std.specs.Io.KnownBytes.{Appends}
 use Rattle.std.proofs.KnownBytes.{Appends-trans}
 use Rattle.alone.specs.Logs.{KeptLog}
-use Rattle.race_board.specs.Races.{entries_of}
+use Rattle.race.specs.Races.{entries_of}
 use Rattle.report.specs.LogTexts.{log_text}
 use Rattle.tee_base.specs.Transfer.{AppendsFront}
 use Rattle.tee_top.specs.Races.{logs_text}

@@ -11,10 +11,10 @@ use Rattle.board.specs.Moment.{View}
 use Rattle.epoch.specs.Forms.{Form}
 use Rattle.epoch.specs.declared.answer.OpenAnswer.{OpenAnswer}
 use Rattle.epoch.specs.declared.answer.OpenAnswer.TheVariants as answers
-use Rattle.race_board.specs.Races.{CameTo, IsFullAs, IsUnordered, LeavesBegin, RunsOn, entries_of}
-use Rattle.race_lines.specs.Wishes.{NameApps, is_line_of}
-use Rattle.race_lines.specs.declared.worker.Stopped.{Stopped}
-use Rattle.race_lines.specs.declared.worker.Stopped.TheVariants as ends
+use Rattle.race.specs.Races.{CameTo, IsFullAs, IsUnordered, LeavesBegin, RunsOn, entries_of}
+use Rattle.race.specs.Wishes.{NameApps, is_line_of}
+use Rattle.race.specs.declared.client.Stopped.{Stopped}
+use Rattle.race.specs.declared.client.Stopped.TheVariants as ends
 use Rattle.script.specs.Grammar.{names_of}
 use Rattle.script.specs.declared.line.Line.{Line}
 use Rattle.script.specs.declared.line.Line.TheVariants as lines

@@ -4,7 +4,7 @@ ghost use Rattle.std.specs.Prelude.{◌≡◌, ◌≤◌, IsErrOf, OnErr, OnOk, 
 ghost use Rattle.std.specs.Io.KnownBytes.{Appends};
 ghost use Rattle.tee_base.specs.Faults.{Rose};
 ghost use Rattle.tee_base.specs.Transfer.{AppendsFront};
-ghost use Rattle.race_board.specs.Races.{entries_of};
+ghost use Rattle.race.specs.Races.{entries_of};
 ghost use Rattle.tee_top.specs.Races.{logs_text};
 ghost use Rattle.tee_top.specs.Stops.{IsNoRefusal};
 ghost use Rattle.tee_top.specs.Transcript.{happened_lines, owner_name, power_line as power_text_of, replies_text};

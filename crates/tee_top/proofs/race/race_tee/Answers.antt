@@ -1,8 +1,8 @@
 use Rattle.std.proofs.Common.{◌≡◌, ◌∙◌, ◌<◌, ◌≤◌, ◌^◌, Err, List, ⊎_elim, ap, arith, false, inl, inr, length, refl, subst, sym, true}
 use Rattle.std.specs.List.{AllByRecursion}
 use Rattle.std.specs.Io.KnownBytes.{Appends}
-use Rattle.race_board.specs.Races.{CameTo, RunsOn, entries_of}
-use Rattle.race_lines.specs.Wishes.{NameApps}
+use Rattle.race.specs.Races.{CameTo, RunsOn, entries_of}
+use Rattle.race.specs.Wishes.{NameApps}
 use Rattle.script.specs.Grammar.{names_of}
 use Rattle.script.specs.declared.dialect.Dialect.TheVariants.{WithoutBoard}
 use Rattle.script.specs.declared.line.Line.{Line}

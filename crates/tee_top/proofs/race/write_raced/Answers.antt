@@ -1,6 +1,6 @@
 use Rattle.std.proofs.Common.{◌∙◌, Err, ap, inl, inr, refl, subst, sym}
 use Rattle.std.specs.Io.KnownBytes.{Appends}
-use Rattle.race_board.specs.Races.{entries_of}
+use Rattle.race.specs.Races.{entries_of}
 use Rattle.tee_base.specs.Transfer.{AppendsFront}
 use Rattle.tee_top.specs.Races.{IsUnraced, logs_text}
 use Rattle.tee_top.specs.Runs.{IsStopped}
