@@ -3,11 +3,11 @@ use Rattle.std.proofs.Common.{◌≡◌, ◌<◌, ◌≤◌, ◌+◌, ◌++◌, 
 use Rattle.std.specs.Io.KnownBytes.{Appends}
 use Rattle.std.proofs.KnownBytes.{Appends-trans}
 use Rattle.alone.specs.Logs.{KeptLog}
-use Rattle.race_board.specs.Races.{entries_of}
+use Rattle.race.specs.Races.{entries_of}
 use Rattle.report.specs.LogTexts.{log_text}
 use Rattle.tee_base.specs.Transfer.{AppendsFront}
 use Rattle.tee_top.specs.Races.{logs_text}
-use Rattle.tee_top.proofs.Writing.{front_after, front_longer}
+use Rattle.run_board.proofs.Writing.{front_after, front_longer}
 
 module _ (names : List (List ℕ)) (logs : List KeptLog) where
   -- the text of the logs from this index on

@@ -11,26 +11,26 @@ use Rattle.board.specs.Moment.{View}
 use Rattle.epoch.specs.Forms.{Form}
 use Rattle.epoch.specs.declared.answer.OpenAnswer.{OpenAnswer}
 use Rattle.epoch.specs.declared.answer.OpenAnswer.TheVariants as answers
-use Rattle.race_board.specs.Races.{CameTo, IsFullAs, IsUnordered, LeavesBegin, RunsOn, entries_of}
-use Rattle.race_lines.specs.Wishes.{NameApps, is_line_of}
-use Rattle.race_lines.specs.declared.worker.Stopped.{Stopped}
-use Rattle.race_lines.specs.declared.worker.Stopped.TheVariants as ends
+use Rattle.race.specs.Races.{CameTo, IsFullAs, IsUnordered, LeavesBegin, RunsOn, entries_of}
+use Rattle.race.specs.Wishes.{NameApps, is_line_of}
+use Rattle.race.specs.declared.client.Stopped.{Stopped}
+use Rattle.race.specs.declared.client.Stopped.TheVariants as ends
 use Rattle.script.specs.Grammar.{names_of}
 use Rattle.script.specs.declared.line.Line.{Line}
 use Rattle.script.specs.declared.line.Line.TheVariants as lines
 use Rattle.store_api.specs.Stores.{Store}
 use Rattle.tee_core.specs.World.{world_of}
-use Rattle.tee_top.specs.Boards.{BeginsWith, HasOrders, LeavesStores}
+use Rattle.run_board.specs.Boards.{BeginsWith, HasOrders, LeavesStores}
 use Rattle.tee_top.specs.Races.{IsRaced, IsUnraced, Races, WritesLogs, logs_text, raced_as}
-use Rattle.tee_top.specs.Reading.{IsKnown, IsReadStatus, IsUnrun}
-use Rattle.tee_top.specs.Runs.{IsStopped}
-use Rattle.tee_top.specs.Statuses.{refusal_of, stopped_as}
-use Rattle.tee_top.specs.Stops.{IsNoRefusal}
-use Rattle.tee_top.specs.declared.lines.Stop.{Stop}
-use Rattle.tee_top.specs.declared.lines.Stop.TheVariants as stops
-use Rattle.tee_top.specs.declared.status.Status.{Status}
-use Rattle.tee_top.specs.declared.status.Status.TheVariants.{Done, BadWords, BadLine, TooLong, StoreRefused, LogFull, NoMemory, ReadFault, WriteFault, BoardFault}
-use Rattle.tee_top.proofs.Opened.{opening_leaves}
+use Rattle.run_board.specs.Reading.{IsKnown, IsReadStatus, IsUnrun}
+use Rattle.run_board.specs.Runs.{IsStopped}
+use Rattle.run_board.specs.Statuses.{refusal_of, stopped_as}
+use Rattle.run_board.specs.Stops.{IsNoRefusal}
+use Rattle.run_board.specs.declared.lines.Stop.{Stop}
+use Rattle.run_board.specs.declared.lines.Stop.TheVariants as stops
+use Rattle.run_board.specs.declared.status.Status.{Status}
+use Rattle.run_board.specs.declared.status.Status.TheVariants.{Done, BadWords, BadLine, TooLong, StoreRefused, LogFull, NoMemory, ReadFault, WriteFault, BoardFault}
+use Rattle.run_board.proofs.Opened.{opening_leaves}
 
 -- ---- lines that ended
 

@@ -1,13 +1,1 @@
-pub mod BoardLines
-pub mod Boards
-pub mod Generated
-pub mod Isolation
-pub mod Layers
-pub mod Logs
-pub mod Parts
 pub mod Races
-pub mod Reading
-pub mod Runs
-pub mod Statuses
-pub mod Stops
-pub mod Transcript

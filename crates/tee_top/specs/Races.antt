@@ -12,12 +12,12 @@ use Rattle.script.specs.Grammar.{names_of}
 use Rattle.script.specs.declared.line.Line.{Line}
 use Rattle.report.specs.LogTexts.{log_text}
 use Rattle.tee_core.specs.World.{world_of}
-use Rattle.race_lines.specs.declared.worker.Stopped.{Stopped}
-use Rattle.race_lines.specs.declared.worker.Stopped.TheVariants as stops
-use Rattle.race_board.specs.Races.{CameTo, RunsOn}
-use Rattle.tee_top.specs.Boards.{LeavesStores}
-use Rattle.tee_top.specs.declared.status.Status.{Status}
-use Rattle.tee_top.specs.declared.status.Status.TheVariants.{Done, BadWords, BadLine, TooLong, StoreRefused, LogFull, NoMemory, ReadFault, WriteFault, BoardFault}
+use Rattle.race.specs.declared.client.Stopped.{Stopped}
+use Rattle.race.specs.declared.client.Stopped.TheVariants as stops
+use Rattle.race.specs.Races.{CameTo, RunsOn}
+use Rattle.run_board.specs.Boards.{LeavesStores}
+use Rattle.run_board.specs.declared.status.Status.{Status}
+use Rattle.run_board.specs.declared.status.Status.TheVariants.{Done, BadWords, BadLine, TooLong, StoreRefused, LogFull, NoMemory, ReadFault, WriteFault, BoardFault}
 
 -- the words of a race: the one word
 abbrev pub AreRaceWords : List (String Global) → Type 0

@@ -1,18 +1,8 @@
-//! The run of a script, and its race: from the words of a command line and the bytes of a source to the bytes of a sink.
+//! The top calls: the race of a script, and beside it the run of one, which is that of `run_board`.
 #![tactic(auto)]
 
-mod blank;
-mod generated;
-mod isolation;
-mod lines;
-mod output;
-mod race;
-mod reading;
-mod run;
-mod status;
+mod logs;
+mod racing;
 
-pub use blank::blank_boards_begin;
-pub use isolation::applications_are_apart;
-pub use race::race_tee;
-pub use run::run_tee;
-pub use status::{Status, status_line};
+pub use racing::race_tee;
+pub use run_board::{Status, applications_are_apart, blank_boards_begin, run_tee, status_line};

@@ -1,7 +1,7 @@
 -- What a status of reading says of a check.
-use Rattle.tee_top.specs.declared.status.Status.{Status}
-use Rattle.tee_top.specs.declared.status.Status.TheVariants.{Done, BadWords, BadLine, TooLong, StoreRefused, LogFull, NoMemory, ReadFault, WriteFault, BoardFault}
-use Rattle.tee_top.specs.Reading.{IsReadStatus}
+use Rattle.run_board.specs.declared.status.Status.{Status}
+use Rattle.run_board.specs.declared.status.Status.TheVariants.{Done, BadWords, BadLine, TooLong, StoreRefused, LogFull, NoMemory, ReadFault, WriteFault, BoardFault}
+use Rattle.run_board.specs.Reading.{IsReadStatus}
 use Rattle.teectl.specs.Checks.{IsCheckStatus}
 
 -- a status of reading is one of a check

@@ -3,9 +3,9 @@ use Rattle.script.specs.declared.dialect.Dialect.TheVariants.{Whole}
 use Rattle.std.specs.Prelude.{ℕ, List, Option}
 use Rattle.app_api.specs.declared.host.Host.{Host}
 use Rattle.script.specs.declared.line.Line.{Line}
-use Rattle.tee_top.specs.Reading.{ReadsTo}
-use Rattle.tee_top.specs.declared.status.Status.{Status}
-use Rattle.tee_top.specs.declared.status.Status.TheVariants.{Done, BadWords, BadLine, TooLong, StoreRefused, LogFull, NoMemory, ReadFault, WriteFault, BoardFault}
+use Rattle.run_board.specs.Reading.{ReadsTo}
+use Rattle.run_board.specs.declared.status.Status.{Status}
+use Rattle.run_board.specs.declared.status.Status.TheVariants.{Done, BadWords, BadLine, TooLong, StoreRefused, LogFull, NoMemory, ReadFault, WriteFault, BoardFault}
 
 -- what the source had left, where it tells that, is a script
 abbrev pub HasScript : {A : Type 0} → List (Host A) → Option (List ℕ) → Type 0

@@ -11,10 +11,10 @@ ghost use Rattle.epoch.specs.declared.answer.OpenAnswer.{OpenAnswer};
 ghost use Rattle.script.specs.Workload.{workload_of};
 ghost use Rattle.store_api.specs.Stores.{empty_store};
 ghost use Rattle.tee_core.specs.InUse.{form_in_use};
-ghost use Rattle.tee_top.specs.Boards.{BeginsWith};
-ghost use Rattle.tee_top.specs.Generated.{AreGenWords, RunsSummed};
-ghost use Rattle.tee_top.specs.Reading.{IsOfScript};
-ghost use Rattle.tee_top.specs.Runs.{AreRunWords, RunsWhole};
+ghost use Rattle.run_board.specs.Boards.{BeginsWith};
+ghost use Rattle.run_board.specs.Generated.{AreGenWords, RunsSummed};
+ghost use Rattle.run_board.specs.Reading.{IsOfScript};
+ghost use Rattle.run_board.specs.Runs.{AreRunWords, RunsWhole};
 
 use app_api::{Application, Host};
 use boards::MemBoard;

@@ -9,8 +9,8 @@ ghost use Rattle.script.specs.declared.line.Line.{Line};
 ghost use Rattle.tee_base.specs.Faults.{Rose};
 ghost use Rattle.tee_base.specs.Transfer.{HasMoreThan};
 ghost use Rattle.tee_base.specs.declared.limits.TheConstants.{MAX_SCRIPT_BYTES};
-ghost use Rattle.tee_top.specs.Runs.{AreRunWords};
-ghost use Rattle.tee_top.specs.Reading.{IsBadAt, IsBadText, IsReadable, IsReadStatus, IsText, IsTooMuch, IsWithin, ReadsTo};
+ghost use Rattle.run_board.specs.Runs.{AreRunWords};
+ghost use Rattle.run_board.specs.Reading.{IsBadAt, IsBadText, IsReadable, IsReadStatus, IsText, IsTooMuch, IsWithin, ReadsTo};
 ghost use Rattle.teectl.specs.Checks.{HasScript, IsCheckStatus};
 
 use app_api::{Application, Host};

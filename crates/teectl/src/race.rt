@@ -9,7 +9,7 @@ ghost use Rattle.script.specs.declared.dialect.Dialect.TheVariants.{WithoutBoard
 ghost use Rattle.store_api.specs.Stores.{empty_store};
 ghost use Rattle.tee_core.specs.InUse.{form_in_use};
 ghost use Rattle.tee_top.specs.Races.{IsRaced, Races};
-ghost use Rattle.tee_top.specs.Reading.{IsOfScript};
+ghost use Rattle.run_board.specs.Reading.{IsOfScript};
 
 use crate::blank::blank_board;
 use app_api::{Application, Host};

@@ -2,7 +2,7 @@
 
 ghost use Rattle.std.specs.Prelude.{◌≡◌, ◌<◌, ℕ, IsTrue, true};
 ghost use Rattle.app_side.specs.Represents.{is_lost};
-ghost use Rattle.race_lines.specs.Wishes.{NameApps, is_line_of};
+ghost use Rattle.race.specs.Wishes.{NameApps, is_line_of};
 
 use super::drawn::{Draws, drawn_script};
 use super::judged::{Clients, Made};
@@ -11,7 +11,7 @@ use alone::{AppLog, LogEntry, LogEvent, Replies, Reply, TurnKind, copy_call};
 use app_api::Host;
 use app_side::AppSide;
 use boards::MemBoard;
-use race_board::{Raced, race_over};
+use race::{Raced, race_over};
 use report::reply_line;
 use sample_apps::{Sample, sample_hosts};
 use script::{Dialect, Line, parse_in};

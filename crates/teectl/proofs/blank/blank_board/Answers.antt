@@ -8,7 +8,7 @@ use Rattle.boards.specs.MemoryBoard.{memory_of, view_of}
 use Rattle.boards.specs.declared.memory.MemBoard.{MemBoard}
 use Rattle.store_api.specs.Stores.{empty_store}
 use Rattle.tee_core.specs.InUse.{form_in_use}
-use Rattle.tee_top.specs.Boards.{BeginsWith}
+use Rattle.run_board.specs.Boards.{BeginsWith}
 use Rattle.teectl.proofs.blank.blank_board.Goals as goal
 
 abbrev Law : Type 0

@@ -1,8 +1,8 @@
 use Rattle.std.proofs.Common.{Err, ap, subst}
 use Rattle.script.specs.declared.dialect.Dialect.TheVariants.{Whole}
 use Rattle.script.proofs.Places.{not_both}
-use Rattle.tee_top.specs.Reading.{IsReadStatus, ReadsTo}
-use Rattle.tee_top.proofs.Ended.{bad_line_told, script_told, too_long_told, within_for}
+use Rattle.run_board.specs.Reading.{IsReadStatus, ReadsTo}
+use Rattle.run_board.proofs.Ended.{bad_line_told, script_told, too_long_told, within_for}
 use Rattle.teectl.proofs.Checks.{read_checks}
 use Rattle.teectl.proofs.check.check_script.Goals as goal
 

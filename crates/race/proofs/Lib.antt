@@ -1,0 +1,17 @@
+mod BoardLemmas
+mod BoardLineLemmas
+mod BoardRaceLemmas
+mod CameLemmas
+mod ClientLemmas
+mod Crosses
+mod DealLemmas
+mod EndLemmas
+mod FirstLemmas
+mod FollowLemmas
+mod FreshLemmas
+mod GoLemmas
+mod LineLemmas
+mod LogLemmas
+mod OutcomeLemmas
+mod RunLemmas
+mod WorkersLemmas

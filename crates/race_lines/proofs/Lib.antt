@@ -1,4 +1,0 @@
-pub mod FollowLemmas
-pub mod GoLemmas
-mod LineLemmas
-mod WorkerLemmas

@@ -1,4 +1,0 @@
-pub mod Dealing
-pub mod Outcomes
-pub mod Racing
-pub mod Workers

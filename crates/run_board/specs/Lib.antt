@@ -1,0 +1,12 @@
+pub mod BoardLines
+pub mod Boards
+pub mod Generated
+pub mod Isolation
+pub mod Layers
+pub mod Logs
+pub mod Parts
+pub mod Reading
+pub mod Runs
+pub mod Statuses
+pub mod Stops
+pub mod Transcript

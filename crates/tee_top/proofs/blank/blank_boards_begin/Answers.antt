@@ -1,6 +1,0 @@
-use Rattle.region_plan.specs.declared.form.Form.TheVariants.{Two}
-use Rattle.tee_top.proofs.Zeros.{begins}
-use Rattle.tee_top.proofs.blank.blank_boards_begin.Goals as goal
-
-pub returns : goal.returns
-returns c = begins (c.region_laws.ensures.blank Two)

@@ -1,7 +1,0 @@
-use Rattle.std.proofs.Common.{◌≡◌, take}
-use Rattle.std.specs.Prelude.{map}
-use Rattle.tee_top.proofs.reading.names_of.Given as goal
-
--- the names of the hosts so far
-abbrev pub invariant-loop-host : goal.invariant-loop-host
-invariant-loop-host g l = l.names.items ≡ map (λ host. host.name) (take l.host-index l.hosts)
