@@ -12,7 +12,7 @@ use Rattle.epoch.specs.declared.header.TreeEntry.{TreeEntry}
 use Rattle.epoch.proofs.LeftLemmas.{rests_in_use, since_earlier}
 use Rattle.tree_paths.specs.Form.{form_root}
 use Rattle.v1_volume.specs.Versions.{volume_form}
-use Rattle.v1_volume.proofs.FramedLemmas.{volume_framed}
+use Rattle.v1_volume.specs.Frame.{volume_framed}
 use Rattle.tree_volume.specs.Keeping.{IsAnew, IsOpen, held_now}
 
 version_in : Option Held → ℕ

@@ -27,7 +27,7 @@ use Rattle.v1_volume.specs.Versions.{old_root, volume_form}
 use Rattle.v1_volume.specs.declared.answer.OldAnswer.{OldAnswer}
 use Rattle.v1_volume.specs.declared.answer.OldAnswer.TheVariants as old_answers
 use Rattle.v1_volume.specs.declared.versions.TheConstants.{VERSIONS}
-use Rattle.v1_volume.proofs.FramedLemmas.{volume_framed}
+use Rattle.v1_volume.specs.Frame.{volume_framed}
 use Rattle.tree_volume.specs.Keeping.{IsOpen, held_now}
 use Rattle.tree_volume.specs.Opens.{Opens}
 use Rattle.tree_volume.specs.declared.volume.Opened.{Opened}

@@ -30,7 +30,7 @@ use Rattle.epoch.proofs.OpenLemmas.{not_ok}
 use Rattle.epoch.proofs.PastLemmas.{behind_more}
 use Rattle.tree_paths.specs.Form.{form_root}
 use Rattle.v1_volume.specs.Versions.{volume_form}
-use Rattle.v1_volume.proofs.FramedLemmas.{volume_framed}
+use Rattle.v1_volume.specs.Frame.{volume_framed}
 use Rattle.epoch.specs.declared.header.TreeEntry.{TreeEntry}
 use Rattle.tree_volume.specs.Keeping.{IsOpen, held_now}
 use Rattle.tree_volume.specs.Opens.{Opens}

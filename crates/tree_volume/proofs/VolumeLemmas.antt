@@ -24,7 +24,7 @@ use Rattle.tree_commits.specs.Change.{FitsTree}
 use Rattle.tree_paths.specs.Form.{form_root, tree_form}
 use Rattle.v1_volume.proofs.NewLemmas.{new_sealed}
 use Rattle.v1_volume.specs.Versions.{volume_form}
-use Rattle.v1_volume.proofs.FramedLemmas.{volume_framed}
+use Rattle.v1_volume.specs.Frame.{volume_framed}
 use Rattle.tree_commits.specs.Gather.{AreTrue}
 use Rattle.tree_volume.specs.Keeping.{IsOpen, Replaces, StaysOpen, damage_now, held_now, text_now}
 use Rattle.tree_volume.specs.Opens.{IsBlankNode}

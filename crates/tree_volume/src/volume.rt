@@ -22,7 +22,7 @@ ghost use Rattle.tree_paths.specs.declared.places.TheConstants.{FIRST_BLOCK, REG
 ghost use Rattle.tree_volume.specs.Keyed.{AreKeysOf-prop};
 ghost use Rattle.tree_paths.specs.Form.{form_root};
 ghost use Rattle.v1_volume.specs.Versions.{volume_form};
-ghost use Rattle.v1_volume.proofs.FramedLemmas.{volume_framed};
+ghost use Rattle.v1_volume.specs.Frame.{volume_framed};
 ghost use Rattle.tree_paths.specs.Identify.{ImagesIdentify};
 ghost use Rattle.tree_paths.specs.Kept.{AreKept};
 ghost use Rattle.tree_paths.specs.Shape.{shape};

@@ -12,7 +12,7 @@ use Rattle.tree_paths.specs.Shape.{first_shape}
 use Rattle.tree_paths.specs.Tree.{Look, damage_above, damage_at, damage_below, damage_of, entry_below, text_of}
 use Rattle.tree_paths.proofs.ReadLemmas.{entry_found, shows_end, text_to, way_to}
 use Rattle.v1_volume.specs.Old.{group_of, old_damage}
-use Rattle.v1_volume.proofs.OldLemmas.{old_damaged}
+use Rattle.v1_volume.specs.Ways.{old_damaged}
 
 -- how far the node of a group lies below the root
 pub group_level : (region group : ℕ) → region < 16 → group < 16 → first_shape.level (group_of region group) ≡ 2

@@ -1,7 +1,6 @@
 pub mod AgreeLemmas
 pub mod CheckedLemmas
 pub mod ConvertedLemmas
-pub mod FramedLemmas
 pub mod GroupLemmas
 pub mod MigrateLemmas
 pub mod MovedLemmas

@@ -21,7 +21,7 @@ use Rattle.v1_volume.specs.Answers.{has_failed, is_of_image, old_answer}
 use Rattle.v1_volume.specs.Versions.{old_root, volume_form}
 use Rattle.v1_volume.specs.declared.answer.OldAnswer.{OldAnswer}
 use Rattle.v1_volume.specs.declared.answer.OldAnswer.TheVariants as answers
-use Rattle.v1_volume.proofs.FramedLemmas.{volume_framed}
+use Rattle.v1_volume.specs.Frame.{volume_framed}
 use Rattle.v1_volume.specs.Old.{old_leaves}
 use Rattle.tree_commits.specs.Touched.{AreOrdered}
 use Rattle.tree_commits.specs.declared.touched.Node.{Node}

@@ -1,7 +1,6 @@
 -- The form of both versions under a root of the second one is the form that is written.
-use Rattle.std.proofs.Common.{◌≡◌, ◌∙◌, ℕ, List, refl, sym, ap}
+use Rattle.std.proofs.Common.{◌≡◌, refl}
 use Rattle.tee_base.specs.Words.{Image, Key}
-use Rattle.epoch.specs.Commits.{IsWritten}
 use Rattle.epoch.specs.Forms.{is_sealed, leaves_of}
 use Rattle.epoch.specs.declared.header.TreeEntry.{TreeEntry}
 use Rattle.tree_paths.specs.Form.{form_root, tree_form}
@@ -14,12 +13,3 @@ new_sealed key image root = refl
 pub new_leaves : (key : Key) (image : Image) (root : TreeEntry) → leaves_of volume_form key image (form_root root) ≡ leaves_of tree_form key image (form_root root)
 unfolding leaves_of
 new_leaves key image root = refl
-
--- what was written of one is written of the other
-pub new_written : (key : Key) (old new : Image) (root after : TreeEntry) (change : (ℕ → ℕ → List ℕ) → ℕ → ℕ → List ℕ)
-    → IsWritten tree_form key (form_root after) (change (leaves_of tree_form key old (form_root root))) new
-    → IsWritten volume_form key (form_root after) (change (leaves_of volume_form key old (form_root root))) new
-new_written key old new root after change is = record {
-  sealed = new_sealed key new after ∙ is.sealed;
-  leaves_are = new_leaves key new after ∙ is.leaves_are ∙ ap change (sym (new_leaves key old root));
-}

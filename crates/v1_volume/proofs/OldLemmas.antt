@@ -1,4 +1,4 @@
--- The leaves of a region of the first version and their damage, and what the regions become.
+-- The leaves of a region of the first version as they are read, and what the regions become.
 use Rattle.std.proofs.Common.{◌≡◌, ◌≤◌, ◌<◌, ◌∙◌, if◌then◌else◌, ℕ, zero, suc, true, false, nat_lt, List, [], ◌∷◌, length, Option, None, Ok, replicate, refl, sym, ap, subst, ⊎_elim, arith}
 use Rattle.std.proofs.lemmas.Bool.{cases_lt}
 use Rattle.std.proofs.lemmas.Bool.Decides.{nat_tests}
@@ -21,29 +21,11 @@ use Rattle.v1_volume.specs.Checking.{Stand, leaf_in}
 use Rattle.v1_volume.specs.Renumbering.{converted_leaf}
 use Rattle.v1_volume.proofs.ConvertedLemmas.{converted_stands}
 use Rattle.tree_paths.specs.Shape.{first_shape}
-use Rattle.tree_paths.specs.Tree.{Look, damage_of, on_image, text_of}
+use Rattle.tree_paths.specs.Tree.{Look, on_image, text_of}
 use Rattle.v1_volume.specs.Laws.{KeepsStores}
 use Rattle.v1_volume.specs.Old.{IsConverted, old_damage, old_leaves}
 use Rattle.v1_volume.specs.Versions.{old_root, volume_form}
-
-module _ (look : Look) (root : TreeEntry) (region leaf : ℕ) where
-  -- a leaf, and its damage
-  pub old_leaf : leaf < 256 → old_leaves look root region leaf ≡ text_of first_shape look root (first_shape.leaf_place region leaf)
-  unfolding old_leaves
-  old_leaf low = let t : nat_lt leaf 256 ≡ true = grind (arith, nat_tests) in rw t refl
-
-  pub old_damaged : leaf < 256 → old_damage look root region leaf ≡ damage_of first_shape look root (first_shape.leaf_place region leaf)
-  unfolding old_damage
-  old_damaged low = let t : nat_lt leaf 256 ≡ true = grind (arith, nat_tests) in rw t refl
-
-  -- there is no other one
-  pub no_leaf : 256 ≤ leaf → old_leaves look root region leaf ≡ []
-  unfolding old_leaves
-  no_leaf past = let t : nat_lt leaf 256 ≡ false = grind (arith, nat_tests) in rw t refl
-
-  pub no_damage : 256 ≤ leaf → old_damage look root region leaf ≡ None
-  unfolding old_damage
-  no_damage past = let t : nat_lt leaf 256 ≡ false = grind (arith, nat_tests) in rw t refl
+use Rattle.v1_volume.specs.Ways.{no_leaf, old_leaf}
 
 -- behind the last of a list there is nothing
 leaf_past : (xs : List (List ℕ)) (i : ℕ) → length xs ≤ i → leaf_in xs i ≡ []

@@ -2,7 +2,7 @@
 use Rattle.std.proofs.Common.{◌≡◌, ◌≢◌, ◌≤◌, ◌<◌, ◌+◌, ◌⊎◌, ◌++◌, ◌∙◌, ◌&&◌, ℕ, zero, suc, Bool}
 use Rattle.std.proofs.Common.{true, false, is_none, List, [], ◌∷◌, length, Option, None, Some, Result, Ok, Err, IfErr, refl, sym, ap, subst, inl, inr, ⊎_elim, arith}
 use Rattle.std.specs.Prelude.{is_ok, slice_index_or}
-use Rattle.std.proofs.lemmas.Bool.{cases_lt, false≢true}
+use Rattle.std.proofs.lemmas.Bool.{cases_lt}
 use Rattle.tee_base.specs.declared.limits.TheConstants.{MAX_HOSTS}
 use Rattle.store_api.specs.declared.answer.Mismatch.{Mismatch}
 use Rattle.store_api.specs.declared.leaves.Leaf.{Leaf}
@@ -11,9 +11,8 @@ use Rattle.store_api.specs.declared.leaves.LeafAnswer.TheVariants as leaf_answer
 use Rattle.store_api.specs.Ascending.{is_above_all}
 use Rattle.store_api.specs.Stores.{Store}
 use Rattle.store_api.specs.Volumes.{IfMismatch as IfLeafMismatch, ShowsLeaf}
-use Rattle.epoch.specs.Forms.{Form, Root, all_below, is_sealed}
+use Rattle.epoch.specs.Forms.{is_sealed}
 use Rattle.epoch.specs.declared.header.TreeEntry.{TreeEntry}
-use Rattle.epoch.proofs.CommitLemmas.{all_below_each, sealed_each, second_true}
 use Rattle.region_plan.specs.Layout.{layout}
 use Rattle.region_plan.specs.Regions.{region_of}
 use Rattle.region_plan.specs.declared.form.Form.TheVariants.{One}
@@ -23,13 +22,14 @@ use Rattle.tree_paths.specs.Shape.{first_shape}
 use Rattle.tree_paths.specs.Shapes.{are_first_children, is_first_shape}
 use Rattle.tree_paths.specs.Tree.{Look, damage_of, on_image}
 use Rattle.tree_paths.specs.Walk.{Visit, Wrong, first_children, first_wrong}
-use Rattle.tree_paths.proofs.WalkLemmas.{image_skips, walked_all, walked_right}
+use Rattle.tree_paths.proofs.WalkLemmas.{walked_all}
 use Rattle.v1_volume.specs.Answers.{AnswersRegion, AnswersRules, AnswersWalk, IfMismatch, old_answer}
 use Rattle.v1_volume.specs.Old.{IsConverted, IsFirstBroken, named_of, old_damage, old_leaves, old_visits}
-use Rattle.v1_volume.specs.Versions.{all_stand, old_root, volume_form}
+use Rattle.v1_volume.specs.Versions.{old_root, volume_form}
 use Rattle.v1_volume.specs.declared.answer.OldAnswer.{OldAnswer}
 use Rattle.v1_volume.specs.declared.answer.OldAnswer.TheVariants as answers
-use Rattle.v1_volume.proofs.OldLemmas.{old_damaged}
+use Rattle.v1_volume.specs.Taken.{sealed_stands, sealed_walk}
+use Rattle.v1_volume.specs.Ways.{old_damaged}
 
 module _ (look : Look) (root : TreeEntry) (skips : SkipsZeros look) (nothing : first_wrong look (old_visits look root) ≡ None) where
   -- where the walk finds nothing wrong no leaf has a damage
@@ -141,38 +141,13 @@ numbered_more xs ys b n long pushed before here r low =
     subst (λ (l : List Leaf). is_above_all l 1024 ≡ true) (sym (ap (named_of (xs ++ b ∷ [])) at ∙ named_last xs b)) here)
     (cases_lt r n))
 
--- a root that seals its leaves stands for a sound image
-sealed_sound : (f : Form) (key : List ℕ) (image : ℕ → List ℕ) (root : Root) → is_sealed f key image root ≡ true → f.sound key image root ≡ true
-unfolding is_sealed
-sealed_sound f key image root sealed =
-    second_true (all_below MAX_HOSTS (λ region. all_below f.leaves (λ leaf. is_none (f.damage key image root region leaf)))) (f.sound key image root) sealed
-
-not_ok : (r : Result Store ℕ) (leaf : ℕ) → is_ok r ≡ true → r ≡ Err leaf → ⊥
-not_ok (Ok store) leaf ok is = cc
-not_ok (Err e) leaf ok is = absurd (false≢true ok)
-
 module _ (key : List ℕ) (image : ℕ → List ℕ) (root : TreeEntry) (sealed : is_sealed volume_form key image (old_root root) ≡ true) where
-  -- the walk finds nothing wrong, since no leaf has a damage
-  pub sealed_walk : first_wrong (on_image first_shape key image) (old_visits (on_image first_shape key image) root) ≡ None
-  sealed_walk =
-      walked_right first_shape is_first_shape first_children 3 are_first_children (on_image first_shape key image) (image_skips first_shape key image) root (omega arith)
-      (λ r l hr hl.
-      sym (old_damaged (on_image first_shape key image) root r l hl)
-      ∙ sealed_each volume_form key (old_root root) image sealed r l hr (omega (arith, hl)))
-
-  -- and no region breaks a rule
-  pub sealed_stands : (region leaf : ℕ) → region < 16 → region_of (layout One) (old_leaves (on_image first_shape key image) root region) ≡ Err leaf → ⊥
-  sealed_stands region leaf low broken =
-      let stands : all_stand (old_leaves (on_image first_shape key image) root) ≡ true = sealed_sound volume_form key image (old_root root) sealed in
-      not_ok (region_of (layout One) (old_leaves (on_image first_shape key image) root region)) leaf
-      (all_below_each 16 (λ (r : ℕ). is_ok (region_of (layout One) (old_leaves (on_image first_shape key image) root r))) stands region low) broken
-
-  -- so it is read, unless a call failed or there was no memory
+  -- what is sealed is read, unless a call failed or there was no memory
   pub sound_read : (A : Type 0) (r : Result A OldAnswer) → AnswersWalk (on_image first_shape key image) (old_visits (on_image first_shape key image) root) r
       → AnswersRules (old_leaves (on_image first_shape key image) root) r → IfErr r (λ why. (why ≡ answers.Failed) ⊎ (why ≡ answers.NoMemory))
   sound_read A (Ok named) walk regions = tt
   sound_read A (Err answers.Failed) walk regions = inl refl
   sound_read A (Err answers.NoMemory) walk regions = inr refl
   sound_read A (Err (answers.Mismatch tags)) walk regions =
-      absurd (let none : Option Wrong = None in let clash : none ≡ Some (record { place = walk.0; tags = tags }) = sym sealed_walk ∙ walk.1 in cc)
-  sound_read A (Err (answers.Garbled region leaf)) walk regions = absurd (sealed_stands region leaf regions.below regions.broken)
+      absurd (let none : Option Wrong = None in let clash : none ≡ Some (record { place = walk.0; tags = tags }) = sym (sealed_walk key image root sealed) ∙ walk.1 in cc)
+  sound_read A (Err (answers.Garbled region leaf)) walk regions = absurd (sealed_stands key image root sealed region leaf regions.below regions.broken)

@@ -21,23 +21,9 @@ use Rattle.v1_volume.specs.Old.{IsFirstBroken, first_garbled, first_refusal, gar
 use Rattle.v1_volume.specs.Versions.{is_old, old_root, volume_form}
 use Rattle.v1_volume.specs.declared.answer.OldAnswer.{OldAnswer}
 use Rattle.v1_volume.specs.declared.answer.OldAnswer.TheVariants as answers
-use Rattle.v1_volume.proofs.ReadLemmas.{sealed_stands, sealed_walk}
-
--- a region that breaks no rule
-garbled_none : (region : ℕ) (r : Result Store ℕ) → ((leaf : ℕ) → r ≡ Err leaf → ⊥) → garbled_at region r ≡ None
-garbled_none region (Ok store) never = refl
-garbled_none region (Err leaf) never = absurd (never leaf refl)
+use Rattle.v1_volume.specs.Taken.{by_rules, first_none}
 
 module _ (regions : ℕ → RegionLeaves) where
-  -- none of so many breaks one
-  first_none : (n : ℕ) → ((r : ℕ) → r < n → (leaf : ℕ) → region_of (layout One) (regions r) ≡ Err leaf → ⊥) → first_garbled n regions ≡ None
-  unfolding first_garbled
-  first_none zero never = refl
-  first_none (suc n) never =
-      let rest : first_garbled n regions ≡ None = first_none n (λ r low. never r (omega arith)) in
-      let last : garbled_at n (region_of (layout One) (regions n)) ≡ None = garbled_none n (region_of (layout One) (regions n)) (never n (omega arith)) in
-      rw (rest, last) refl
-
   stands_not : (r : ℕ) → Stand (regions r) → (leaf : ℕ) → region_of (layout One) (regions r) ≡ Err leaf → ⊥
   stands_not r stand leaf broken = absurd (let e = sym stand ∙ broken in cc)
 
@@ -45,7 +31,7 @@ module _ (regions : ℕ → RegionLeaves) where
   first_here : (region leaf : ℕ) → IsFirstBroken regions region leaf → first_garbled (suc region) regions ≡ Some (OldGarbled region leaf)
   unfolding first_garbled
   first_here region leaf is =
-      let rest : first_garbled region regions ≡ None = first_none region (λ r low. stands_not r (is.first r low)) in
+      let rest : first_garbled region regions ≡ None = first_none regions region (λ r low. stands_not r (is.first r low)) in
       rw rest (ap (garbled_at region) is.broken)
 
   -- and however many there are besides
@@ -61,10 +47,6 @@ module _ (regions : ℕ → RegionLeaves) where
       (cases_lt region n)
 
 module _ (look : Look) (root : TreeEntry) where
-  by_rules : first_wrong look (old_visits look root) ≡ None → old_refusal look root ≡ first_garbled 16 (old_leaves look root)
-  unfolding old_refusal
-  by_rules none = ap (λ (w : Option Wrong). first_refusal (mismatch_of w) (first_garbled 16 (old_leaves look root))) none
-
   by_tags : (wrong : Wrong) → first_wrong look (old_visits look root) ≡ Some wrong → old_refusal look root ≡ Some (OldMismatch wrong.tags)
   unfolding old_refusal
   by_tags wrong is = ap (λ (w : Option Wrong). first_refusal (mismatch_of w) (first_garbled 16 (old_leaves look root))) is
@@ -77,26 +59,10 @@ module _ (look : Look) (root : TreeEntry) where
   refused_told (Err answers.NoMemory) walk rules = inl (inr refl)
   refused_told (Err (answers.Mismatch tags)) walk rules = inr (by_tags (record { place = walk.0; tags = tags }) walk.1)
   refused_told (Err (answers.Garbled region leaf)) walk rules =
-      inr (by_rules walk ∙ first_is (old_leaves look root) 16 region leaf rules.below rules)
+      inr (by_rules look root walk ∙ first_is (old_leaves look root) 16 region leaf rules.below rules)
 
   pub taken_told : {A : Type 0} (result : Result A OldAnswer) → AnswersWalk look (old_visits look root) result → AnswersRules (old_leaves look root) result
       → IfOk result (λ done. old_refusal look root ≡ None)
   taken_told (Ok done) walk rules =
-      by_rules walk ∙ first_none (old_leaves look root) 16 (λ r low. stands_not (old_leaves look root) r (rules r low))
+      by_rules look root walk ∙ first_none (old_leaves look root) 16 (λ r low. stands_not (old_leaves look root) r (rules r low))
   taken_told (Err why) walk rules = tt
-
--- a root of the first version, by its version
-pub old_root_is : (root : Root) → is_old root ≡ true → root ≡ old_root root.entry
-old_root_is root old =
-    let is : root.version ≡ 1 = grind (arith, nat_tests, old) in
-    λ i. record { version = is i; entry = root.entry }
-
--- no image is refused whose leaves the root seals
-pub sealed_taken : (key : Key) (root : Root) (image : Image) → is_sealed volume_form key image root ≡ true → volume_form.refuses key image root ≡ None
-sealed_taken key root image sealed =
-    elim (is_old root) as (λ b. is_old root ≡ b → (let none : Option OpenAnswer = None in if b then old_refusal (on_image first_shape key image) root.entry else none) ≡ None) [
-      | true ↦ λ old. let sealed' = subst (λ (r : Root). is_sealed volume_form key image r ≡ true) (old_root_is root old) sealed in
-          by_rules (on_image first_shape key image) root.entry (sealed_walk key image root.entry sealed')
-          ∙ first_none (old_leaves (on_image first_shape key image) root.entry) 16 (λ r low leaf. sealed_stands key image root.entry sealed' r leaf low)
-      | false ↦ λ new. refl
-    ] refl

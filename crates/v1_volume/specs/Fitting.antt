@@ -8,7 +8,7 @@ use Rattle.tree_commits.specs.declared.touched.Node.{Node}
 use Rattle.tree_paths.specs.Shape.{first_shape}
 use Rattle.tree_paths.specs.Tree.{on_image}
 use Rattle.v1_volume.specs.Versions.{is_old, old_root, old_uses, volume_form}
-use Rattle.v1_volume.proofs.FramedLemmas.{leaves_same}
+use Rattle.v1_volume.specs.Frame.{leaves_same}
 use Rattle.v1_volume.specs.Migrating.{FitsOld}
 
 pub still_fits_old : (keys : Keys) (nodes : List Node) (root : Root) (key : Key) (base image : Image) → SameUsed volume_form key root base image

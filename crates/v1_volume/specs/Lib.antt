@@ -1,9 +1,12 @@
 pub mod Answers
 pub mod Checking
 pub mod Fitting
+pub mod Frame
 pub mod Laws
 pub mod Migrating
 pub mod Old
 pub mod Planting
 pub mod Renumbering
+pub mod Taken
 pub mod Versions
+pub mod Ways

@@ -7,7 +7,7 @@ ghost use Rattle.tree_commits.specs.Touched.{AreOrdered};
 ghost use Rattle.tree_paths.specs.Shape.{shape};
 ghost use Rattle.tree_paths.specs.declared.places.TheConstants.{DEPTH, FIRST_BLOCK};
 ghost use Rattle.v1_volume.specs.Versions.{volume_form};
-ghost use Rattle.v1_volume.proofs.FramedLemmas.{volume_framed};
+ghost use Rattle.v1_volume.specs.Frame.{volume_framed};
 ghost use Rattle.v1_volume.specs.Migrating.{FitsOld};
 ghost use Rattle.v1_volume.specs.Fitting.{still_fits_old};
 

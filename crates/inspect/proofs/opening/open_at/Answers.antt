@@ -4,7 +4,7 @@ use Rattle.epoch.specs.declared.header.Header.{Header}
 use Rattle.epoch.proofs.AdmitLemmas.{lifted, refusal_so}
 use Rattle.epoch.proofs.MountLemmas.{rests_holding}
 use Rattle.v1_volume.specs.Versions.{volume_form}
-use Rattle.v1_volume.proofs.FramedLemmas.{volume_format, volume_framed}
+use Rattle.v1_volume.specs.Frame.{volume_format, volume_framed}
 use Rattle.inspect.proofs.OpeningLemmas.{found_holds}
 use Rattle.inspect.proofs.opening.open_at.Goals as goal
 

@@ -11,7 +11,7 @@ use Rattle.tree_volume.specs.Opens.{IsOpenAs, held_after}
 use Rattle.epoch.specs.declared.taking.TheConstants.{NO_ROOT}
 use Rattle.epoch.specs.Forms.{IsBlankRoot}
 use Rattle.v1_volume.proofs.AgreeLemmas.{both_commits, tree_mounted}
-use Rattle.v1_volume.proofs.FramedLemmas.{volume_framed}
+use Rattle.v1_volume.specs.Frame.{volume_framed}
 use Rattle.epoch.proofs.OpenLemmas.{blank_root, format_failed, opens_without}
 use Rattle.tree_volume.proofs.OpenLemmas.{format_done}
 use Rattle.tree_volume.proofs.VolumeLemmas.{blank_fits}

@@ -11,7 +11,7 @@ use Rattle.tree_paths.specs.Form.{form_root}
 use Rattle.v1_volume.specs.Versions.{volume_form}
 use Rattle.tree_volume.specs.Opens.{IsOpenAs, held_after}
 use Rattle.tree_volume.specs.declared.volume.Opened.{Opened}
-use Rattle.v1_volume.proofs.FramedLemmas.{volume_format, volume_framed}
+use Rattle.v1_volume.specs.Frame.{volume_format, volume_framed}
 use Rattle.epoch.proofs.OpenLemmas.{blocks_more, err_so, not_ok, opens_failed, opens_joined, told_so}
 use Rattle.tree_volume.proofs.ReopenLemmas.{refused_then}
 use Rattle.tree_volume.proofs.TakeLemmas.{exact_found, rule_found}

@@ -16,7 +16,7 @@ use Rattle.tree_commits.specs.Change.{FitsTree}
 use Rattle.tree_paths.specs.Form.{form_root, tree_form}
 use Rattle.v1_volume.specs.Versions.{volume_form}
 use Rattle.v1_volume.proofs.AgreeLemmas.{both_commits, tree_mounted}
-use Rattle.v1_volume.proofs.FramedLemmas.{volume_framed}
+use Rattle.v1_volume.specs.Frame.{volume_framed}
 use Rattle.epoch.specs.Forms.{Root}
 use Rattle.epoch.specs.declared.header.TreeEntry.{TreeEntry}
 use Rattle.tree_commits.specs.Gather.{leaf_among}

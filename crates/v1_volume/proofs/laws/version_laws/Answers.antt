@@ -1,4 +1,4 @@
-use Rattle.v1_volume.proofs.FramedLemmas.{volume_format, volume_framed}
+use Rattle.v1_volume.specs.Frame.{volume_format, volume_framed}
 use Rattle.v1_volume.proofs.OldLemmas.{keeps_stores}
 use Rattle.v1_volume.proofs.laws.version_laws.Goals as goal
 

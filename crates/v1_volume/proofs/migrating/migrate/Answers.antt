@@ -11,7 +11,7 @@ use Rattle.tree_commits.specs.declared.touched.Node.{Node}
 use Rattle.tree_commits.proofs.GatherLemmas.{gathered}
 use Rattle.tree_paths.specs.Shape.{first_shape, shape}
 use Rattle.tree_paths.specs.Tree.{on_image}
-use Rattle.v1_volume.proofs.FramedLemmas.{volume_framed}
+use Rattle.v1_volume.specs.Frame.{volume_framed}
 use Rattle.v1_volume.specs.Answers.{no_fault}
 use Rattle.v1_volume.specs.Old.{old_leaves}
 use Rattle.v1_volume.specs.Versions.{old_root, volume_form}

@@ -1,7 +1,7 @@
 use Rattle.epoch.proofs.KeepLemmas.{held_same, in_use_same, steady_read}
 use Rattle.epoch.proofs.MountLemmas.{after_order, before_above, past_above}
 use Rattle.epoch.proofs.PastLemmas.{passed}
-use Rattle.v1_volume.proofs.FramedLemmas.{volume_framed}
+use Rattle.v1_volume.specs.Frame.{volume_framed}
 use Rattle.tree_paths.specs.Form.{form_root}
 use Rattle.v1_volume.specs.Versions.{volume_form}
 use Rattle.tree_volume.proofs.AnewLemmas.{anew_before}

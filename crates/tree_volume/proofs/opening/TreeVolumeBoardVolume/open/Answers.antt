@@ -8,7 +8,7 @@ use Rattle.epoch.proofs.KeepLemmas.{steady_in_use}
 use Rattle.epoch.proofs.MountLemmas.{leaves_opening, opened_to}
 use Rattle.epoch.proofs.PastLemmas.{itself}
 use Rattle.v1_volume.specs.Versions.{volume_form}
-use Rattle.v1_volume.proofs.FramedLemmas.{volume_framed}
+use Rattle.v1_volume.specs.Frame.{volume_framed}
 use Rattle.epoch.proofs.OpenLemmas.{blocks_none}
 use Rattle.tree_volume.proofs.AnewLemmas.{anew_open}
 use Rattle.tree_volume.proofs.OpenLemmas.{leaves_resting}

@@ -25,7 +25,7 @@ use Rattle.epoch.specs.declared.header.TreeEntry.{TreeEntry}
 use Rattle.epoch.specs.declared.taking.Reopened.{Reopened}
 use Rattle.tree_paths.specs.Form.{form_root}
 use Rattle.v1_volume.specs.Versions.{volume_form}
-use Rattle.v1_volume.proofs.FramedLemmas.{volume_format, volume_framed}
+use Rattle.v1_volume.specs.Frame.{volume_format, volume_framed}
 use Rattle.tree_volume.specs.Keeping.{held_now}
 use Rattle.tree_volume.proofs.AnewLemmas.{anew_before, anew_open}
 use Rattle.tree_volume.proofs.ReopenLemmas.{admitted_then, after_kept, alone_then, found_anew, keeps_err, keeps_ok, keeps_search, mounted_then, not_rewritten, open_as}

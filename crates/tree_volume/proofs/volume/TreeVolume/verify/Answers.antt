@@ -6,7 +6,7 @@ use Rattle.epoch.proofs.KeepLemmas.{crash_read, held_same, in_use_same, steady_r
 use Rattle.epoch.specs.Forms.{held_of}
 use Rattle.tree_paths.specs.Form.{form_root}
 use Rattle.v1_volume.specs.Versions.{volume_form}
-use Rattle.v1_volume.proofs.FramedLemmas.{volume_framed}
+use Rattle.v1_volume.specs.Frame.{volume_framed}
 use Rattle.v1_volume.proofs.NewLemmas.{new_sealed}
 use Rattle.tree_volume.specs.Keeping.{held_now}
 use Rattle.tree_volume.proofs.AnewLemmas.{anew_open}

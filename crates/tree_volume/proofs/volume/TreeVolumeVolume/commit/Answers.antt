@@ -10,7 +10,7 @@ use Rattle.epoch.specs.Forms.{held_of}
 use Rattle.seal.specs.Keys.{AreKeysOf}
 use Rattle.tree_paths.specs.Form.{form_root}
 use Rattle.v1_volume.specs.Versions.{volume_form}
-use Rattle.v1_volume.proofs.FramedLemmas.{volume_framed}
+use Rattle.v1_volume.specs.Frame.{volume_framed}
 use Rattle.tree_volume.specs.Keeping.{IsOpen, held_now}
 use Rattle.tree_volume.specs.Made.{IsMade}
 use Rattle.tree_volume.specs.declared.volume.Opened.{Opened}

@@ -7,7 +7,7 @@ use Rattle.epoch.proofs.KeepLemmas.{crash_read, err_cause, err_undamaged, founda
 use Rattle.epoch.specs.Forms.{held_of}
 use Rattle.tree_paths.specs.Form.{form_root}
 use Rattle.v1_volume.specs.Versions.{volume_form}
-use Rattle.v1_volume.proofs.FramedLemmas.{volume_framed}
+use Rattle.v1_volume.specs.Frame.{volume_framed}
 use Rattle.tree_volume.specs.Keeping.{held_now}
 use Rattle.tree_volume.proofs.AnewLemmas.{anew_open}
 use Rattle.tree_volume.specs.Soundness.{sound_open}

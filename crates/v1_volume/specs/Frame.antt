@@ -1,4 +1,4 @@
--- The laws of the form of a volume over both versions.
+-- What the leaves of a volume of either version and their damage rest on: the laws of the form of both versions.
 use Rattle.std.proofs.Common.{◌≡◌, ◌≤◌, ◌<◌, ◌+◌, ◌*◌, ◌==◌, ◌&&◌, ◌∙◌, if◌then◌else◌, ℕ, zero, suc, Bool, true, false, nat_lt, List, Option, None, refl, sym, ap, subst, ⊎_elim, arith}
 use Rattle.std.specs.Prelude.{is_ok, replicate}
 use Rattle.std.proofs.lemmas.Bool.{cases_lt}
@@ -22,8 +22,8 @@ use Rattle.tree_paths.specs.Tree.{Found, Look, block_at, damage_of, entry_below,
 use Rattle.v1_volume.specs.Old.{old_damage, old_leaves}
 use Rattle.v1_volume.specs.Versions.{all_stand, is_old, old_uses, volume_form}
 use Rattle.v1_volume.specs.declared.versions.TheConstants.{VERSIONS}
-use Rattle.v1_volume.proofs.OldLemmas.{no_damage, no_leaf, old_damaged, old_leaf}
-use Rattle.v1_volume.proofs.RefusalLemmas.{sealed_taken}
+use Rattle.v1_volume.specs.Taken.{sealed_taken}
+use Rattle.v1_volume.specs.Ways.{no_damage, no_leaf, old_damaged, old_leaf}
 
 is_itself : (k : ℕ) → (k == k) ≡ true
 is_itself k = grind arith
