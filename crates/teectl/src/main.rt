@@ -8,7 +8,7 @@ mod command;
 mod handed_in;
 mod kept;
 mod listing;
-mod race;
+mod racing;
 #[cfg(test)]
 mod tests;
 mod texts;
@@ -20,7 +20,7 @@ use crate::check::check_script;
 use crate::command::{Asked, asked_for, without_explain};
 use crate::kept::KeptSource;
 use crate::listing::host_lines;
-use crate::race::race_blank;
+use crate::racing::race_blank;
 use crate::why::{Ended, with_file_reason, with_reason};
 use board::Board;
 use boards::{FileBoard, FileBoardFailed};

@@ -2,7 +2,7 @@ use Rattle.std.proofs.Common.{◌≤◌, length, arith}
 use Rattle.tee_base.specs.declared.limits.TheConstants.{MAX_HOSTS}
 use Rattle.boards.specs.MemoryBoard.{view_of}
 use Rattle.store_api.specs.Stores.{empty_store}
-use Rattle.teectl.proofs.race.race_blank.Goals as goal
+use Rattle.teectl.proofs.racing.race_blank.Goals as goal
 
 pub returns-clause-written : goal.returns-clause-written
 returns-clause-written g c = λ raced.
