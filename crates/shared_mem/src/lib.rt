@@ -7,8 +7,6 @@ mod blocks;
 mod laws;
 mod lists;
 mod reference;
-#[cfg(test)]
-mod tests;
 
 pub use answer::BlockAnswer;
 pub use blocks::{Blocks, MAX_BLOCKS};

@@ -4,8 +4,6 @@
 
 mod clock;
 mod laws;
-#[cfg(test)]
-mod tests;
 mod time;
 
 pub use clock::{Clock, OwnTime};

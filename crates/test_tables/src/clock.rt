@@ -1,9 +1,9 @@
-//! Rows by hand: each call, and each answer at its edge.
+//! A clock of ticks: rows by hand, each call and each answer at its edge.
 
 ghost use Rattle.std.specs.Prelude.{◌≡◌};
 
-use crate::{Clock, FOREVER, Time, TimeAnswer};
 use std::process::Abort;
+use ticks_time::{Clock, FOREVER, Time, TimeAnswer};
 
 /// A time.
 fn time(seconds: u32, millis: u32) -> Time

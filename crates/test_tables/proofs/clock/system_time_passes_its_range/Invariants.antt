@@ -1,5 +1,5 @@
 use Rattle.std.proofs.Common.{◌≤◌, ◌*◌, ◌^◌}
-use Rattle.ticks_time.proofs.tests.system_time_passes_its_range.Given as goal
+use Rattle.test_tables.proofs.clock.system_time_passes_its_range.Given as goal
 
 abbrev pub invariant-loop-n : goal.invariant-loop-n
 invariant-loop-n g l = l.clock.ticks ≤ l.n * 2 ^ 32

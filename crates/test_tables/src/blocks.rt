@@ -1,7 +1,7 @@
-//! Rows by hand: each call, and each answer.
+//! The blocks of memory that clients share: rows by hand, each call and each answer.
 
-use crate::{BlockAnswer, Blocks, Direction, Reference};
 use app_api::Param;
+use shared_mem::{BlockAnswer, Blocks, Direction, Reference};
 use std::process::Abort;
 use tee_base::Code;
 

@@ -1,7 +1,0 @@
-//! Full tables of each kind, and what ends with an instance.
-#![tactic(auto)]
-
-#[cfg(test)]
-mod openings;
-#[cfg(test)]
-mod sessions;
