@@ -1,8 +1,7 @@
 -- Under a root of the second version the form of both versions is mounted with, holds and leaves what the form of the tree does.
-use Rattle.std.proofs.Common.{◌≡◌, ◌<◌, ◌⊎◌, ◌==◌, ◌&&◌, ◌%◌, ◌∙◌, if◌then◌else◌, not, ℕ, Bool, true, false, List, Option, Some, None, Result, Ok, Err}
+use Rattle.std.proofs.Common.{◌≡◌, ◌==◌, ◌&&◌, ◌%◌, ◌∙◌, if◌then◌else◌, not, ℕ, Bool, true, false, List, Option, Some, None, Result, Ok, Err}
 use Rattle.std.proofs.Common.{nat_lt, IfOk, OnErr, refl, sym, ap, subst, inl, inr, ⊎_elim, arith}
 use Rattle.std.proofs.lemmas.Bool.Decides.{nat_tests}
-use Rattle.tee_base.specs.Crash.{LeavesOnly}
 use Rattle.tee_base.specs.Words.{Counter, Image, Key}
 use Rattle.tee_base.proofs.Crash.{weaker}
 use Rattle.store_api.specs.Volumes.{Held}

@@ -1,10 +1,8 @@
 -- The leaves of a region of the first version as they are read, and what the regions become.
-use Rattle.std.proofs.Common.{◌≡◌, ◌≤◌, ◌<◌, ◌∙◌, if◌then◌else◌, ℕ, zero, suc, true, false, nat_lt, List, [], ◌∷◌, length, Option, None, Ok, replicate, refl, sym, ap, subst, ⊎_elim, arith}
+use Rattle.std.proofs.Common.{◌≡◌, ◌≤◌, ◌<◌, ◌∙◌, ℕ, zero, suc, true, nat_lt, List, [], ◌∷◌, length, replicate, refl, sym, ap, subst, ⊎_elim, arith}
 use Rattle.std.proofs.lemmas.Bool.{cases_lt}
 use Rattle.std.proofs.lemmas.Bool.Decides.{nat_tests}
-use Rattle.tee_base.specs.declared.limits.TheConstants.{MAX_HOSTS}
 use Rattle.store_api.specs.Ascending.{is_above_all}
-use Rattle.store_api.specs.Stores.{Store}
 use Rattle.store_api.specs.declared.leaves.Leaf.{Leaf}
 use Rattle.epoch.specs.Forms.{is_leaf, leaves_of}
 use Rattle.epoch.specs.declared.header.TreeEntry.{TreeEntry}
@@ -13,8 +11,7 @@ use Rattle.epoch.proofs.KeepLemmas.{leaf_is}
 use Rattle.region_plan.specs.Laws.{AgreeInUse}
 use Rattle.region_plan.specs.Layout.{layout}
 use Rattle.region_plan.specs.Plans.{with_leaves}
-use Rattle.region_plan.specs.Regions.{region_of}
-use Rattle.region_plan.specs.declared.form.Form.TheVariants.{One, Two}
+use Rattle.region_plan.specs.declared.form.Form.TheVariants.{Two}
 use Rattle.region_plan.proofs.AgreeLemmas.{region_same}
 use Rattle.region_plan.proofs.FormLemmas.{laid_by}
 use Rattle.v1_volume.specs.Checking.{Stand, leaf_in}
@@ -23,7 +20,7 @@ use Rattle.v1_volume.proofs.ConvertedLemmas.{converted_stands}
 use Rattle.tree_paths.specs.Shape.{first_shape}
 use Rattle.tree_paths.specs.Tree.{Look, on_image, text_of}
 use Rattle.v1_volume.specs.Laws.{KeepsStores}
-use Rattle.v1_volume.specs.Old.{IsConverted, old_damage, old_leaves}
+use Rattle.v1_volume.specs.Old.{IsConverted, old_leaves}
 use Rattle.v1_volume.specs.Versions.{old_root, volume_form}
 use Rattle.v1_volume.specs.Ways.{no_leaf, old_leaf}
 

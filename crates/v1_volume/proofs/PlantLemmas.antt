@@ -1,5 +1,5 @@
 -- Nodes without entries, and the leaves that are put under them.
-use Rattle.std.proofs.Common.{◌≡◌, ◌≢◌, ◌≤◌, ◌<◌, ◌+◌, ◌==◌, ◌∙◌, if◌then◌else◌, ℕ, zero, suc, Bool, true, false}
+use Rattle.std.proofs.Common.{◌≡◌, ◌≢◌, ◌<◌, ◌+◌, ◌==◌, ◌∙◌, if◌then◌else◌, ℕ, zero, suc, true, false}
 use Rattle.std.proofs.Common.{nat_lt, List, [], ◌∷◌, Option, None, Some, All, IsSome, length, replicate, refl, sym, ap, subst, ⊎_elim, arith}
 use Rattle.std.specs.List.{list_all}
 use Rattle.std.proofs.lemmas.Bool.{cases_eq, false≢true}
@@ -9,8 +9,6 @@ use Rattle.store_api.specs.Ascending.{is_above_all}
 use Rattle.store_api.specs.Volumes.{leaf_after}
 use Rattle.store_api.specs.declared.leaves.Leaf.{Leaf}
 use Rattle.epoch.proofs.CommitLemmas.{first_true, second_true}
-use Rattle.v1_volume.specs.Renumbering.{converted_leaf}
-use Rattle.region_plan.specs.Plans.{with_leaves}
 use Rattle.tree_commits.specs.Gather.{IsPushed, leaf_among}
 use Rattle.tree_commits.specs.Touched.{fresh_of}
 use Rattle.tree_commits.specs.declared.touched.Node.{Node}

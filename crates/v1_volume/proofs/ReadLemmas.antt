@@ -1,22 +1,19 @@
 -- What is answered of a volume of the first version, by what its walk and its regions are.
-use Rattle.std.proofs.Common.{◌≡◌, ◌≢◌, ◌≤◌, ◌<◌, ◌+◌, ◌⊎◌, ◌++◌, ◌∙◌, ◌&&◌, ℕ, zero, suc, Bool}
-use Rattle.std.proofs.Common.{true, false, is_none, List, [], ◌∷◌, length, Option, None, Some, Result, Ok, Err, IfErr, refl, sym, ap, subst, inl, inr, ⊎_elim, arith}
-use Rattle.std.specs.Prelude.{is_ok, slice_index_or}
+use Rattle.std.proofs.Common.{◌≡◌, ◌≢◌, ◌≤◌, ◌<◌, ◌+◌, ◌⊎◌, ◌++◌, ◌∙◌, ℕ, zero, suc}
+use Rattle.std.proofs.Common.{true, List, [], ◌∷◌, length, Option, None, Some, Result, Ok, Err, IfErr, refl, sym, ap, subst, inl, inr, ⊎_elim, arith}
 use Rattle.std.proofs.lemmas.Bool.{cases_lt}
-use Rattle.tee_base.specs.declared.limits.TheConstants.{MAX_HOSTS}
 use Rattle.store_api.specs.declared.answer.Mismatch.{Mismatch}
 use Rattle.store_api.specs.declared.leaves.Leaf.{Leaf}
 use Rattle.store_api.specs.declared.leaves.LeafAnswer.{LeafAnswer}
 use Rattle.store_api.specs.declared.leaves.LeafAnswer.TheVariants as leaf_answers
 use Rattle.store_api.specs.Ascending.{is_above_all}
-use Rattle.store_api.specs.Stores.{Store}
 use Rattle.store_api.specs.Volumes.{IfMismatch as IfLeafMismatch, ShowsLeaf}
 use Rattle.epoch.specs.Forms.{is_sealed}
 use Rattle.epoch.specs.declared.header.TreeEntry.{TreeEntry}
 use Rattle.region_plan.specs.Layout.{layout}
 use Rattle.region_plan.specs.Regions.{region_of}
 use Rattle.region_plan.specs.declared.form.Form.TheVariants.{One}
-use Rattle.v1_volume.specs.Checking.{Stand, leaf_in}
+use Rattle.v1_volume.specs.Checking.{Stand}
 use Rattle.tree_paths.specs.Laws.{SkipsZeros}
 use Rattle.tree_paths.specs.Shape.{first_shape}
 use Rattle.tree_paths.specs.Shapes.{are_first_children, is_first_shape}
@@ -24,7 +21,7 @@ use Rattle.tree_paths.specs.Tree.{Look, damage_of, on_image}
 use Rattle.tree_paths.specs.Walk.{Visit, Wrong, first_children, first_wrong}
 use Rattle.tree_paths.proofs.WalkLemmas.{walked_all}
 use Rattle.v1_volume.specs.Answers.{AnswersRegion, AnswersRules, AnswersWalk, IfMismatch, old_answer}
-use Rattle.v1_volume.specs.Old.{IsConverted, IsFirstBroken, named_of, old_damage, old_leaves, old_visits}
+use Rattle.v1_volume.specs.Old.{IsConverted, named_of, old_damage, old_leaves, old_visits}
 use Rattle.v1_volume.specs.Versions.{old_root, volume_form}
 use Rattle.v1_volume.specs.declared.answer.OldAnswer.{OldAnswer}
 use Rattle.v1_volume.specs.declared.answer.OldAnswer.TheVariants as answers

@@ -1,24 +1,18 @@
 -- Why a volume of the first version isn't taken over.
-use Rattle.std.proofs.Common.{◌≡◌, ◌≤◌, ◌<◌, ◌⊎◌, ◌==◌, ◌∙◌, if◌then◌else◌, ℕ, zero, suc, true, false, Option, None, Some, Result, Ok, Err, IfErr, IfOk, refl, sym, ap, subst, inl, inr, ⊎_elim, arith}
+use Rattle.std.proofs.Common.{◌≡◌, ◌≤◌, ◌<◌, ◌⊎◌, ◌∙◌, ℕ, zero, suc, Option, None, Some, Result, Ok, Err, IfErr, IfOk, refl, sym, ap, subst, inl, inr, ⊎_elim, arith}
 use Rattle.std.proofs.lemmas.Bool.{cases_lt}
-use Rattle.std.proofs.lemmas.Bool.Decides.{nat_tests}
-use Rattle.tee_base.specs.Words.{Image, Key, RegionLeaves}
-use Rattle.store_api.specs.Stores.{Store}
-use Rattle.epoch.specs.Forms.{Root, is_sealed}
+use Rattle.tee_base.specs.Words.{RegionLeaves}
 use Rattle.epoch.specs.Mounts.{IsKeptFromOpening}
-use Rattle.epoch.specs.declared.answer.OpenAnswer.{OpenAnswer}
 use Rattle.epoch.specs.declared.answer.OpenAnswer.TheVariants.{OldGarbled, OldMismatch}
 use Rattle.epoch.specs.declared.header.TreeEntry.{TreeEntry}
 use Rattle.region_plan.specs.Layout.{layout}
 use Rattle.region_plan.specs.Regions.{region_of}
 use Rattle.region_plan.specs.declared.form.Form.TheVariants.{One}
 use Rattle.v1_volume.specs.Checking.{Stand}
-use Rattle.tree_paths.specs.Shape.{first_shape}
-use Rattle.tree_paths.specs.Tree.{Look, on_image}
+use Rattle.tree_paths.specs.Tree.{Look}
 use Rattle.tree_paths.specs.Walk.{Wrong, first_wrong}
 use Rattle.v1_volume.specs.Answers.{AnswersRules, AnswersWalk, open_answer}
 use Rattle.v1_volume.specs.Old.{IsFirstBroken, first_garbled, first_refusal, garbled_at, mismatch_of, old_leaves, old_refusal, old_visits}
-use Rattle.v1_volume.specs.Versions.{is_old, old_root, volume_form}
 use Rattle.v1_volume.specs.declared.answer.OldAnswer.{OldAnswer}
 use Rattle.v1_volume.specs.declared.answer.OldAnswer.TheVariants as answers
 use Rattle.v1_volume.specs.Taken.{by_rules, first_none}

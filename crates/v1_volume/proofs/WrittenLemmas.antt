@@ -1,7 +1,6 @@
 -- What stands under the new root once the nodes were written, and which blocks they are.
-use Rattle.std.proofs.Common.{◌≡◌, ◌≢◌, ◌≤◌, ◌<◌, ◌-◌, ◌*◌, ◌==◌, ◌&&◌, ◌||◌, ◌∙◌, if◌then◌else◌, not, ℕ, zero, suc, Bool}
-use Rattle.std.proofs.Common.{true, false, List, [], ◌∷◌, Option, None, Some, nat_lt, is_none, replicate, refl, sym, ap, subst, ⊎_elim, arith}
-use Rattle.std.proofs.lemmas.Bool.{cases_eq}
+use Rattle.std.proofs.Common.{◌≡◌, ◌≤◌, ◌<◌, ◌*◌, ◌==◌, ◌&&◌, ◌||◌, ◌∙◌, if◌then◌else◌, not, ℕ, zero, suc, Bool}
+use Rattle.std.proofs.Common.{true, false, List, [], ◌∷◌, Option, None, Some, nat_lt, is_none, replicate, refl, sym, ap, subst, arith}
 use Rattle.std.proofs.lemmas.Bool.Decides.{nat_tests}
 use Rattle.tee_base.specs.Words.{Image, Key}
 use Rattle.tee_base.specs.declared.limits.TheConstants.{MAX_HOSTS}
@@ -24,7 +23,7 @@ use Rattle.tree_paths.specs.Shapes.{at_most, is_shape}
 use Rattle.tree_paths.specs.Tree.{Found, Look, damage_at, damage_below, damage_of, entry_below, on_image, or_known, text_of, with_new}
 use Rattle.tree_paths.specs.Ways.{above, both_none, found_zero, zero_damage}
 use Rattle.v1_volume.specs.Old.{old_leaves}
-use Rattle.v1_volume.specs.Versions.{old_root, old_uses, volume_form}
+use Rattle.v1_volume.specs.Versions.{old_root, volume_form}
 use Rattle.v1_volume.specs.Migrating.{FitsOld}
 use Rattle.v1_volume.specs.Planting.{AreBlank, or_zeros}
 

@@ -1,5 +1,5 @@
 -- What is answered of a volume of the first version.
-use Rattle.std.specs.Prelude.{◌≡◌, ◌<◌, ℕ, Bool, true, false, not, List, Option, None, Some, Result, Ok, Err}
+use Rattle.std.specs.Prelude.{◌≡◌, ◌<◌, ℕ, Bool, true, false, not, List, None, Some, Result, Ok, Err}
 use Rattle.tee_base.specs.Words.{RegionLeaves}
 use Rattle.tee_base.specs.declared.limits.TheConstants.{MAX_HOSTS}
 use Rattle.store_api.specs.declared.answer.Mismatch.{Mismatch}

@@ -1,5 +1,5 @@
 -- What a migration gathered fits every image that has the blocks of the ways.
-use Rattle.std.proofs.Common.{◌≡◌, ◌<◌, ◌∙◌, if◌then◌else◌, ℕ, Bool, true, List, sym, ap, subst}
+use Rattle.std.proofs.Common.{◌≡◌, ◌∙◌, ℕ, true, List, sym, ap, subst}
 use Rattle.seal.specs.declared.keys.Keys.{Keys}
 use Rattle.tee_base.specs.Words.{Image, Key}
 use Rattle.epoch.specs.Forms.{Root, SameUsed}
@@ -7,7 +7,7 @@ use Rattle.v1_volume.specs.Renumbering.{converted_leaf}
 use Rattle.tree_commits.specs.declared.touched.Node.{Node}
 use Rattle.tree_paths.specs.Shape.{first_shape}
 use Rattle.tree_paths.specs.Tree.{on_image}
-use Rattle.v1_volume.specs.Versions.{is_old, old_root, old_uses, volume_form}
+use Rattle.v1_volume.specs.Versions.{old_uses, volume_form}
 use Rattle.v1_volume.specs.Frame.{leaves_same}
 use Rattle.v1_volume.specs.Migrating.{FitsOld}
 

@@ -1,11 +1,10 @@
 -- What the leaves of a volume of either version and their damage rest on: the laws of the form of both versions.
-use Rattle.std.proofs.Common.{◌≡◌, ◌≤◌, ◌<◌, ◌+◌, ◌*◌, ◌==◌, ◌&&◌, ◌∙◌, if◌then◌else◌, ℕ, zero, suc, Bool, true, false, nat_lt, List, Option, None, refl, sym, ap, subst, ⊎_elim, arith}
+use Rattle.std.proofs.Common.{◌≡◌, ◌≤◌, ◌<◌, ◌+◌, ◌*◌, ◌==◌, ◌&&◌, ◌∙◌, if◌then◌else◌, ℕ, zero, suc, Bool, true, false, nat_lt, List, None, refl, sym, ap, subst, ⊎_elim, arith}
 use Rattle.std.specs.Prelude.{is_ok, replicate}
 use Rattle.std.proofs.lemmas.Bool.{cases_lt}
 use Rattle.std.proofs.lemmas.Bool.Decides.{nat_tests}
 use Rattle.tee_base.specs.Words.{Image, Key}
 use Rattle.tee_base.specs.declared.limits.TheConstants.{MAX_HOSTS}
-use Rattle.store_api.specs.declared.answer.Mismatch.{Mismatch}
 use Rattle.epoch.specs.Copies.{copy_of}
 use Rattle.epoch.specs.Formats.{IsFormatOf}
 use Rattle.epoch.specs.Forms.{IsBlankRoot, IsFramed, Root, all_below}
@@ -14,11 +13,11 @@ use Rattle.region_plan.specs.Layout.{layout}
 use Rattle.region_plan.specs.Regions.{region_of}
 use Rattle.region_plan.specs.declared.form.Form.TheVariants.{One}
 use Rattle.v1_volume.specs.Renumbering.{converted_leaf}
-use Rattle.tree_paths.specs.Form.{tree, tree_form, tree_root, tree_uses}
+use Rattle.tree_paths.specs.Form.{tree_form, tree_root, tree_uses}
 use Rattle.tree_paths.specs.Frame.{copy_below, damage_same, form_framed, found_same, tree_framed, uses_by}
 use Rattle.tree_paths.specs.Shape.{first_shape}
 use Rattle.tree_paths.specs.Shapes.{is_first_shape}
-use Rattle.tree_paths.specs.Tree.{Found, Look, block_at, damage_of, entry_below, entry_of, on_image, text_of}
+use Rattle.tree_paths.specs.Tree.{Found, Look, block_at, entry_below, entry_of, on_image}
 use Rattle.v1_volume.specs.Old.{old_damage, old_leaves}
 use Rattle.v1_volume.specs.Versions.{all_stand, is_old, old_uses, volume_form}
 use Rattle.v1_volume.specs.declared.versions.TheConstants.{VERSIONS}

@@ -1,9 +1,9 @@
 -- Laws of the form of a volume over both versions.
-use Rattle.std.specs.Prelude.{◌≡◌, ◌<◌, ℕ, true, Ok}
+use Rattle.std.specs.Prelude.{◌≡◌, ◌<◌, ℕ, Ok}
 use Rattle.tee_base.specs.Words.{Image, Key}
 use Rattle.tee_base.specs.declared.limits.TheConstants.{MAX_HOSTS}
 use Rattle.store_api.specs.Stores.{Store}
-use Rattle.epoch.specs.Forms.{is_sealed, leaves_of}
+use Rattle.epoch.specs.Forms.{leaves_of}
 use Rattle.epoch.specs.declared.header.TreeEntry.{TreeEntry}
 use Rattle.region_plan.specs.Layout.{layout}
 use Rattle.region_plan.specs.Regions.{region_of}

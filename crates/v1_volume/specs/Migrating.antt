@@ -1,7 +1,7 @@
 -- What a migration writes, and what it leaves.
-use Rattle.std.specs.Prelude.{◌≡◌, ◌⊎◌, ◌<◌, ◌+◌, ℕ, List, Option, Some, None, Result, Ok, Err, IfOk, IfErr}
+use Rattle.std.specs.Prelude.{◌≡◌, ◌⊎◌, ℕ, List, Some, Result, IfOk, IfErr}
 use Rattle.tee_base.specs.Crash.{LeavesOnly}
-use Rattle.tee_base.specs.Words.{Image, Key, RegionLeaves}
+use Rattle.tee_base.specs.Words.{Key}
 use Rattle.store_api.specs.Volumes.{Held}
 use Rattle.board.specs.Moment.{View, left_since, moment}
 use Rattle.seal.specs.Keys.{AreKeysOf}
@@ -13,7 +13,6 @@ use Rattle.tree_commits.specs.Touched.{AreOrdered}
 use Rattle.tree_commits.specs.declared.touched.Node.{Node}
 use Rattle.tree_paths.specs.Shape.{first_shape, shape}
 use Rattle.tree_paths.specs.Tree.{Look, on_image}
-use Rattle.tree_paths.specs.Walk.{Visit}
 use Rattle.v1_volume.specs.Answers.{AnswersRules, AnswersWalk}
 use Rattle.v1_volume.specs.Old.{old_leaves, old_visits}
 use Rattle.v1_volume.specs.Versions.{old_root, volume_form}

@@ -3,7 +3,7 @@ use Rattle.std.specs.Prelude.{◌≡◌, ◌<◌, ℕ, List, Option, Some, None,
 use Rattle.tee_base.specs.Words.{RegionLeaves}
 use Rattle.tee_base.specs.declared.limits.TheConstants.{BLOCK_BYTES, MAX_HOSTS}
 use Rattle.v1_volume.specs.Renumbering.{converted_leaf}
-use Rattle.tree_commits.specs.Touched.{AreOrdered, fresh_of}
+use Rattle.tree_commits.specs.Touched.{fresh_of}
 use Rattle.tree_commits.specs.declared.touched.Node.{Node}
 use Rattle.tree_paths.specs.Shape.{shape}
 use Rattle.tree_paths.specs.declared.places.TheConstants.{DEPTH, REGION_LEAVES}

@@ -1,6 +1,6 @@
 -- The form of a volume over both versions: the second one is written, and one of the first holds what its regions become.
-use Rattle.std.specs.Prelude.{◌≡◌, ◌+◌, ◌*◌, ◌==◌, ◌&&◌, ◌||◌, ℕ, Bool, true, false, not, nat_lt, is_ok, if◌then◌else◌, List, Option, None}
-use Rattle.tee_base.specs.Words.{Image, Key, RegionLeaves}
+use Rattle.std.specs.Prelude.{◌==◌, ◌&&◌, ◌||◌, ℕ, Bool, not, nat_lt, is_ok, if◌then◌else◌, None}
+use Rattle.tee_base.specs.Words.{RegionLeaves}
 use Rattle.tee_base.specs.declared.limits.TheConstants.{MAX_HOSTS}
 use Rattle.epoch.specs.Forms.{Form, Root, all_below}
 use Rattle.epoch.specs.declared.header.TreeEntry.{TreeEntry}

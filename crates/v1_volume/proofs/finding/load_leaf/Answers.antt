@@ -1,6 +1,5 @@
-use Rattle.std.proofs.Common.{◌≡◌, ◌<◌, ◌∙◌, ℕ, List, OnOk, ap, subst, sym, arith, rules}
+use Rattle.std.proofs.Common.{◌≡◌, ◌<◌, ◌∙◌, ℕ, List, OnOk, ap, subst, rules}
 use Rattle.store_api.specs.Volumes.{ShowsLeaf}
-use Rattle.epoch.specs.declared.header.TreeEntry.{TreeEntry}
 use Rattle.tree_paths.specs.Shape.{first_shape}
 use Rattle.tree_paths.specs.Tree.{Look, damage_at, entry_below, on_image}
 use Rattle.v1_volume.proofs.GroupLemmas.{leaf_entry, leaf_named, leaf_shown}

@@ -1,24 +1,16 @@
-use Rattle.std.proofs.Common.{◌≡◌, ◌≢◌, ◌<◌, ◌-◌, ◌^◌, ◌⊎◌, ◌∙◌, ℕ, true, List, Result, Ok, Err, IfErr, refl, sym, ap, subst, inl, inr, arith, rules}
+use Rattle.std.proofs.Common.{◌≡◌, ◌<◌, ℕ, Result, Err, sym, ap, subst, arith, rules}
 use Rattle.seal.specs.Keys.{AreKeysOf}
-use Rattle.store_api.specs.Volumes.{Held}
-use Rattle.board.specs.Steps.{SameBlocks}
 use Rattle.epoch.proofs.AloneLemmas.{alone_fewer, alone_more, alone_read}
 use Rattle.epoch.proofs.PastLemmas.{followed}
-use Rattle.epoch.specs.Commits.{IsBegun, IsMounted}
-use Rattle.epoch.specs.Forms.{Root}
+use Rattle.epoch.specs.Commits.{IsBegun}
 use Rattle.epoch.specs.declared.header.TreeEntry.{TreeEntry}
-use Rattle.tree_commits.specs.declared.touched.Node.{Node}
 use Rattle.tree_commits.proofs.GatherLemmas.{gathered}
-use Rattle.tree_paths.specs.Shape.{first_shape, shape}
-use Rattle.tree_paths.specs.Tree.{on_image}
+use Rattle.tree_paths.specs.Shape.{shape}
 use Rattle.v1_volume.specs.Frame.{volume_framed}
 use Rattle.v1_volume.specs.Answers.{no_fault}
-use Rattle.v1_volume.specs.Old.{old_leaves}
 use Rattle.v1_volume.specs.Versions.{old_root, volume_form}
 use Rattle.v1_volume.specs.declared.answer.OldAnswer.{OldAnswer}
-use Rattle.v1_volume.specs.declared.answer.OldAnswer.TheVariants as answers
 use Rattle.v1_volume.specs.Migrating.{FitsOld, Migrates}
-use Rattle.v1_volume.specs.Planting.{ArePlanted}
 use Rattle.v1_volume.proofs.MigrateLemmas.{done_migrates, told_of, failed_migrates, fits_read, last_migrates, last_run, last_says, last_told, of_no_image, mounted_mid, read_migrates, same_blocks}
 use Rattle.v1_volume.proofs.migrating.migrate.Goals as goal
 

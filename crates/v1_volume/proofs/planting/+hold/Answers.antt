@@ -1,4 +1,4 @@
-use Rattle.std.proofs.Common.{◌≡◌, ◌<◌, ◌-◌, ◌∷◌, ◌∙◌, ℕ, suc, List, None, IsSome, refl, sym, ap, subst, arith}
+use Rattle.std.proofs.Common.{◌≡◌, ◌<◌, ◌-◌, ◌∷◌, ◌∙◌, ℕ, suc, None, IsSome, sym, ap, subst, arith}
 use Rattle.tree_commits.specs.Gather.{AreGathered}
 use Rattle.tree_commits.specs.Touched.{fresh_of}
 use Rattle.tree_commits.specs.declared.touched.Node.{Node}

@@ -1,4 +1,4 @@
-use Rattle.std.proofs.Common.{◌≡◌, ◌≢◌, ◌<◌, ◌∷◌, ◌∙◌, ℕ, List, None, Some, IsSome, OnOk, length, refl, sym, ap, subst, arith, rules}
+use Rattle.std.proofs.Common.{◌≡◌, ◌≢◌, ◌∷◌, ◌∙◌, ℕ, List, None, Some, IsSome, length, refl, ap, subst, arith, rules}
 use Rattle.tree_commits.specs.Gather.{IsPushed}
 use Rattle.tree_commits.specs.Touched.{AreOrdered, fresh_of}
 use Rattle.tree_commits.specs.declared.touched.Node.{Node}

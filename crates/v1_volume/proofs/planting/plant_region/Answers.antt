@@ -1,4 +1,4 @@
-use Rattle.std.proofs.Common.{◌≡◌, ◌≢◌, ◌<◌, ◌+◌, ◌∷◌, ◌∙◌, ℕ, true, nat_lt, List, [], None, Some, IsSome, drop, get_or, refl, sym, ap, subst, arith}
+use Rattle.std.proofs.Common.{◌≡◌, ◌≢◌, ◌<◌, ◌+◌, ◌∷◌, ◌∙◌, ℕ, true, nat_lt, List, [], IsSome, drop, get_or, refl, ap, subst}
 use Rattle.std.specs.List.{list_all}
 use Rattle.std.proofs.lemmas.List.{drop_more}
 use Rattle.std.proofs.lemmas.List.Elements.{All-get_or}
@@ -6,7 +6,7 @@ use Rattle.store_api.specs.Ascending.{is_ascending}
 use Rattle.store_api.specs.declared.leaves.Leaf.{Leaf}
 use Rattle.tree_commits.specs.Gather.{leaf_among}
 use Rattle.tree_commits.specs.Touched.{fresh_of}
-use Rattle.tree_commits.proofs.GatherLemmas.{below_step, first_bytes, gathered, leaf_level, named_step, new_number, none_left, rest_ascends}
+use Rattle.tree_commits.proofs.GatherLemmas.{below_step, first_bytes, leaf_level, named_step, new_number, none_left, rest_ascends}
 use Rattle.tree_paths.specs.Shape.{shape}
 use Rattle.tree_paths.specs.Shapes.{is_shape}
 use Rattle.v1_volume.proofs.PlantLemmas.{none_yet, not_yet}

@@ -1,4 +1,4 @@
-use Rattle.std.proofs.Common.{◌≡◌, ◌≢◌, ◌<◌, ℕ, true, nat_lt, List, IsSome, drop}
+use Rattle.std.proofs.Common.{◌≡◌, ◌≢◌, ◌<◌, ℕ, true, nat_lt, IsSome, drop}
 use Rattle.std.specs.List.{list_all}
 use Rattle.store_api.specs.Ascending.{is_ascending}
 use Rattle.store_api.specs.declared.leaves.Leaf.{Leaf}

@@ -1,4 +1,4 @@
-use Rattle.std.proofs.Common.{◌≡◌, ◌<◌, ◌+◌, ◌*◌, ◌/◌, ◌∙◌, ℕ, true, List, None, Some, Result, Err, length, refl, sym, ap, subst, arith, rules}
+use Rattle.std.proofs.Common.{◌≡◌, ◌<◌, ◌+◌, ◌*◌, ◌/◌, ◌∙◌, ℕ, true, List, None, Some, Result, Err, length, sym, ap, subst, arith, rules}
 use Rattle.store_api.specs.declared.leaves.LeafAnswer.{LeafAnswer}
 use Rattle.store_api.specs.Volumes.{IfMismatch, ShowsLeaf}
 use Rattle.epoch.proofs.CallLemmas.{run_more}

@@ -1,11 +1,10 @@
-use Rattle.std.proofs.Common.{◌≡◌, ◌<◌, ◌+◌, ◌∙◌, ℕ, true, List, None, Some, Result, Err, Vec, length, refl, sym, ap, subst, arith, rules}
+use Rattle.std.proofs.Common.{◌≡◌, ◌<◌, ◌+◌, ◌∙◌, ℕ, true, List, Some, Result, Err, Vec, length, sym, ap, subst, rules}
 use Rattle.std.specs.Global.{Global}
 use Rattle.store_api.specs.declared.leaves.Leaf.{Leaf}
 use Rattle.epoch.proofs.CallLemmas.{run_more}
 use Rattle.epoch.proofs.ReadLemmas.{only_more}
 use Rattle.tree_paths.specs.Shape.{first_shape}
 use Rattle.tree_paths.specs.Tree.{Look, on_image}
-use Rattle.tree_paths.specs.Walk.{first_wrong}
 use Rattle.tree_paths.proofs.WalkLemmas.{image_skips}
 use Rattle.v1_volume.specs.Answers.{AnswersRegion, AnswersRules, AnswersWalk, IfMismatch}
 use Rattle.v1_volume.specs.Old.{IsConverted, old_damage, old_leaves, old_visits}

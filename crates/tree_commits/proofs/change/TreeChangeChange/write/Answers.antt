@@ -1,4 +1,4 @@
-use Rattle.std.proofs.Common.{◌<◌, ◌∙◌, ℕ, true, refl, sym}
+use Rattle.std.proofs.Common.{◌<◌, ℕ, true, refl}
 use Rattle.epoch.proofs.AloneLemmas.{alone_run}
 use Rattle.epoch.specs.Commits.{spare}
 use Rattle.epoch.proofs.SettledLemmas.{settled_run, settled_starts}
