@@ -1,2 +1,1 @@
-pub mod Actor
-pub mod Probe
+pub mod Player

@@ -1,24 +1,10 @@
-//! Tables of events with their replies, as the requirements have them, and turns over stores of which some calls fail, or tell
-//! of damage.
+//! What no script reaches: entries that fail, cancellation as an entry begins, and what ends an application's instances from
+//! outside.
 #![tactic(auto)]
 
 #[cfg(test)]
-mod actor;
+mod player;
 #[cfg(test)]
-mod cancellation;
-#[cfg(test)]
-mod damaged;
-#[cfg(test)]
-mod flag;
-#[cfg(test)]
-mod full;
-#[cfg(test)]
-mod power;
-#[cfg(test)]
-mod probe;
-#[cfg(test)]
-mod sessions;
+mod rows;
 #[cfg(test)]
 mod tables;
-#[cfg(test)]
-mod turns;

@@ -1,0 +1,127 @@
+//! The application of the tests: it plays asks in turn, whatever it is given, and begins anew in each instance.
+
+ghost use Rattle.std.specs.Prelude.{◌≡◌, IfOk};
+ghost use Rattle.test_app_side.specs.Player as player;
+
+use app_api::{Answer, Application, Ask, Given, Outs};
+use std::alloc::Global;
+use tee_base::{Bytes, Code, NoMemory};
+
+/// One ask in words that a table can hold.
+#[derive(Clone, Copy)]
+pub enum Play {
+    /// The entry returns this code.
+    Return(Code),
+    /// The entry returns the code that the last ask was refused with, CANCEL where it was answered yes, and else SUCCESS.
+    Told,
+    Flag,
+    Mask,
+    Unmask,
+    /// The object `a` is made anew, or opened.
+    Create,
+    Open,
+}
+
+/// The asks that it plays, the first of them next. After the last one each entry returns SUCCESS.
+#[derive(Clone, Copy)]
+pub struct Player {
+    pub first: Play,
+    pub second: Play,
+    pub third: Play,
+    pub fourth: Play,
+    pub fifth: Play,
+    pub sixth: Play,
+}
+
+const DONE: Play = Play::Return(Code::SUCCESS);
+
+/// The one each of whose entries returns SUCCESS.
+pub const PLAIN: Player = Player {
+    first: DONE,
+    second: DONE,
+    third: DONE,
+    fourth: DONE,
+    fifth: DONE,
+    sixth: DONE,
+};
+
+fn told_by(given: &Given) -> Code
+    ensures { result ≡ player.told_by given.now }
+{
+    match given {
+        Given::Answer(Answer::Refused(code)) => *code,
+        Given::Answer(Answer::Truth(true)) => Code::CANCEL,
+        _ => Code::SUCCESS,
+    }
+}
+
+fn return_with(code: Code) -> Ask
+    ensures { result ≡ player.return_with code }
+{
+    Ask::Return {
+        code,
+        outs: Outs::nothing(),
+    }
+}
+
+fn create(alloc: Global) -> Result<Ask, NoMemory>
+    ensures { IfOk result (λ ask. ask ≡ player.create) }
+{
+    Ok(Ask::ObjCreate {
+        storage: 1,
+        id: Bytes::from_slice(alloc, b"a")?,
+        flags: 0x433,
+        attr: 0,
+        content: Bytes::empty(alloc),
+    })
+}
+
+fn open(alloc: Global) -> Result<Ask, NoMemory>
+    ensures { IfOk result (λ ask. ask ≡ player.open) }
+{
+    Ok(Ask::ObjOpen {
+        storage: 1,
+        id: Bytes::from_slice(alloc, b"a")?,
+        flags: 0x33,
+    })
+}
+
+fn ask_of(alloc: Global, play: Play, told: Code) -> Result<Ask, NoMemory>
+    ensures { IfOk result (λ ask. ask ≡ player.ask_of play told) }
+{
+    match play {
+        Play::Return(code) => Ok(return_with(code)),
+        Play::Told => Ok(return_with(told)),
+        Play::Flag => Ok(Ask::CancelFlag),
+        Play::Mask => Ok(Ask::CancelMask),
+        Play::Unmask => Ok(Ask::CancelUnmask),
+        Play::Create => create(alloc),
+        Play::Open => open(alloc),
+    }
+}
+
+impl Application for Player {
+    ghost behaviour = { record {
+      next = player.rest;
+      asks = λ a given. player.ask_of a.first (player.told_by given);
+    } };
+
+    fn step(&mut self, alloc: Global, given: Given) -> Result<Ask, NoMemory> {
+        let told = told_by(&given);
+        drop(given);
+        let ask = ask_of(alloc, self.first, told)?;
+        *self = Player {
+            first: self.second,
+            second: self.third,
+            third: self.fourth,
+            fourth: self.fifth,
+            fifth: self.sixth,
+            sixth: DONE,
+        };
+        Ok(ask)
+    }
+
+    fn fresh(&self, _alloc: Global) -> Result<Player, NoMemory> {
+        Ok(*self)
+    }
+}
