@@ -208,12 +208,6 @@ pub fn run(rt: &impl Abort, tee: &mut Pair, app: u8, call: Call) -> Went
     went_of(rt, told.as_slice())
 }
 
-/// Compares the code of a call's reply, and whether a turn of it lost the storage.
-pub fn check_went(rt: &impl Abort, went: Went, code: Code, lost: Option<bool>) {
-    let holds = went.code == code && went.lost == lost;
-    assert!(rt; holds);
-}
-
 /// Runs a call that succeeds, and gives the first value that its reply shows.
 pub fn succeed(rt: &impl Abort, tee: &mut Pair, app: u8, call: Call) -> u32
     requires { app < app_count tee.old }
@@ -221,7 +215,7 @@ pub fn succeed(rt: &impl Abort, tee: &mut Pair, app: u8, call: Call) -> u32
     ensures boots { boots_of tee.new ≡ boots_of tee.old }
 {
     let went = run(rt, tee, app, call);
-    check_went(rt, went, Code::SUCCESS, None);
+    assert!(rt; went.code == Code::SUCCESS && went.lost == None);
     went.value
 }
 
