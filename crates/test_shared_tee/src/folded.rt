@@ -7,27 +7,24 @@ ghost use Rattle.app_side.specs.Represents.{is_lost};
 ghost use Rattle.shared_tee.specs.Ending.{ArePasses};
 ghost use Rattle.shared_tee.specs.Passes.{IsPassOf, PassView};
 
-use super::shared::{begun, bytes, check_few};
+use super::shared::{PASSES, SEED, begun, bytes, check_few, hosts};
 use alone::{AppLog, LogEntry, LogEvent, Outputs, Replies, Reply, Shown, TurnKind, copy_call};
 use app_api::{Application, Host, Param, Params};
 use app_side::AppSide;
+use board::Board;
 use boards::MemBoard;
-use sample_apps::{Sample, sample_hosts};
+use epoch::BoardVolume;
+use sample_apps::Store;
 use shared_parts::{Posted, SharedAnswer};
 use shared_tee::{Pass, SharedTeeOver};
 use std::alloc::Global;
 use std::process::Abort;
 use std::thread::{Threads, join};
-use store_api::{MapStore, Volume};
+use store_api::{AppStore, MapStore, Volume};
 use tee_base::Code;
 
-const SEED: [u8; 32] = [9; 32];
-
-/// How many passes the six applications have.
-const PASSES: usize = 48;
-
 /// How many calls a thread makes, five in each of its sessions.
-const CALLS: usize = 2_000;
+const CALLS: usize = 200;
 
 /// How many turns it makes after each call.
 const TURNS: usize = 8;
@@ -289,14 +286,14 @@ fn check_replies<'a>(
 }
 
 /// A turn that goes as it is to.
-fn turn_alone(
+fn turn_alone<S: AppStore, A: Application>(
     rt: &impl Abort,
-    side: &mut AppSide<Sample>,
-    store: &mut MapStore,
+    side: &mut AppSide<A>,
+    store: &mut S,
     instance: u8,
 ) -> Replies
-    requires { is_lost side.old ≡ store.old.lost }
-    ensures { is_lost side.new ≡ store.new.lost }
+    requires { is_lost side.old ≡ (S.keeper.status store.old).lost }
+    ensures { is_lost side.new ≡ (S.keeper.status store.new).lost }
 {
     assert!(rt; side.turns() < MOST);
     let turned = side.turn(instance, store);
@@ -305,15 +302,15 @@ fn turn_alone(
 }
 
 /// What the application answers to the event of an entry: a call or a turn.
-fn answers(
+fn answers<S: AppStore, A: Application>(
     rt: &impl Abort,
     alloc: Global,
-    side: &mut AppSide<Sample>,
-    store: &mut MapStore,
+    side: &mut AppSide<A>,
+    store: &mut S,
     entry: &LogEntry,
 ) -> Replies
-    requires { is_lost side.old ≡ store.old.lost }
-    ensures { is_lost side.new ≡ store.new.lost }
+    requires { is_lost side.old ≡ (S.keeper.status store.old).lost }
+    ensures { is_lost side.new ≡ (S.keeper.status store.new).lost }
 {
     match &entry.event {
         LogEvent::Call(call) => {
@@ -326,14 +323,14 @@ fn answers(
 }
 
 /// The application, with a store of its own, answers each entry with its replies.
-fn fold(
+fn fold<S: AppStore, A: Application>(
     rt: &impl Abort,
     alloc: Global,
     log: &AppLog,
-    side: &mut AppSide<Sample>,
-    store: &mut MapStore,
+    side: &mut AppSide<A>,
+    store: &mut S,
 )
-    requires { is_lost side.old ≡ store.old.lost }
+    requires { is_lost side.old ≡ (S.keeper.status store.old).lost }
 {
     let (entries, logged) = log.parts();
     let mut rest = logged;
@@ -346,7 +343,13 @@ fn fold(
 }
 
 /// Folds the log of the application at this place with one that has run nothing.
-fn fold_anew(rt: &impl Abort, alloc: Global, host: Host<Sample>, place: u8, log: &AppLog) {
+fn fold_anew<A: Application>(
+    rt: &impl Abort,
+    alloc: Global,
+    host: Host<A>,
+    place: u8,
+    log: &AppLog,
+) {
     let mut side = AppSide::new(alloc, host, place, SEED).expect(rt, "an application");
     let mut store = MapStore::new(alloc, &[]).expect(rt, "a store");
     fold(rt, alloc, log, &mut side, &mut store);
@@ -354,36 +357,63 @@ fn fold_anew(rt: &impl Abort, alloc: Global, host: Host<Sample>, place: u8, log:
     drop(side);
 }
 
-/// The log has so many calls with their turns, and a reply to each call.
-fn check_counts(rt: &impl Abort, log: &AppLog, calls: usize) {
+/// The log has a thread's calls with their turns, and a reply to each call.
+fn check_counts(rt: &impl Abort, log: &AppLog) {
     let (entries, replies) = log.parts();
-    assert!(rt; replies.len() == calls);
-    assert!(rt; calls <= CALLS && entries.len() == calls * (1 + TURNS));
+    assert!(rt; replies.len() == CALLS && entries.len() == CALLS * (1 + TURNS));
 }
 
-/// Folds the logs of all applications. Only the first two have entries.
-fn fold_all(rt: &impl Abort, alloc: Global, logs: &[AppLog]) {
-    let hosts = sample_hosts(alloc).expect(rt, "hosts");
-    assert!(rt; hosts.len() == logs.len());
+/// Folds the logs of both applications.
+fn fold_both<A: Application>(rt: &impl Abort, alloc: Global, hosts: Vec<Host<A>>, logs: &[AppLog]) {
+    assert!(rt; hosts.len() == 2 && logs.len() == 2);
     let mut place = 0u8;
     for (host, log) in hosts.into_iter().zip(logs.iter()) {
-        check_counts(rt, log, if place < 2 { CALLS } else { 0 });
+        check_counts(rt, log);
         fold_anew(rt, alloc, host, place, log);
-        place = place.saturating_add(1);
+        place = 1;
     }
+}
+
+/// The first client's passes of both applications work, and the whole list comes back.
+fn work_all<R: Threads + Abort + Sync, V: Volume + Send, A: Application + Send>(
+    rt: &R,
+    alloc: Global,
+    tee: &SharedTeeOver<V, A>,
+    passes: Vec<Pass<V, A>>,
+) -> Vec<Pass<V, A>>
+    requires { ArePasses tee.now passes.items }
+    ensures { ArePasses tee.now result.items }
+{
+    assert!(rt; passes.len() == PASSES);
+    let (vault, keep, rest) = two_of(tee, passes);
+    let (vault, keep) = work_beside(rt, alloc, tee, vault, keep);
+    put_back(rt, tee, rest, vault, keep)
+}
+
+/// The logs when both have worked, and the board.
+fn finish<R: Threads + Abort + Sync, B: Board, V: BoardVolume<B> + Send, A: Application + Send>(
+    rt: &R,
+    alloc: Global,
+    tee: SharedTeeOver<V, A>,
+    passes: Vec<Pass<V, A>>,
+) -> (Vec<AppLog>, B)
+    requires { ArePasses tee passes.items }
+{
+    let passes = work_all(rt, alloc, &tee, passes);
+    tee.finish(passes)
 }
 
 #[test]
 fn the_logs_are_what_the_applications_answer_alone(rt: HostRuntime) {
     let alloc = rt.alloc();
-    let hosts = sample_hosts(alloc).expect(&rt, "hosts");
-    let (tee, passes) = begun(&rt, alloc, hosts, SEED);
-    assert!(&rt; passes.len() == PASSES);
-    let (vault, twin, rest) = two_of(&tee, passes);
-    let (vault, twin) = work_beside(&rt, alloc, &tee, vault, twin);
-    let passes = put_back(&rt, &tee, rest, vault, twin);
-    let (logs, board): (Vec<AppLog>, MemBoard) = tee.finish(passes);
+    let (tee, passes) = begun(&rt, alloc, Store::Idle, Store::Idle);
+    let (logs, board): (Vec<AppLog>, MemBoard) = finish(&rt, alloc, tee, passes);
     drop(board);
-    fold_all(&rt, alloc, logs.as_slice());
+    fold_both(
+        &rt,
+        alloc,
+        hosts(&rt, alloc, Store::Idle, Store::Idle),
+        logs.as_slice(),
+    );
     drop(logs);
 }

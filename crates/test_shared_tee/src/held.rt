@@ -3,9 +3,10 @@
 ghost use Rattle.std.specs.Prelude.{ℕ};
 ghost use Rattle.std.specs.Thread.{IsSend, IsSync};
 ghost use Rattle.app_api.specs.declared.ask.Ask.TheVariants.{CancelFlag};
+ghost use Rattle.shared_tee.specs.Ending.{ArePasses};
 ghost use Rattle.shared_tee.specs.Passes.{IsPassOf};
 
-use super::shared::{open, turn, with_two};
+use super::shared::{begun, open, turn, two_passes};
 use app_api::{Application, Ask, Given, Params};
 use shared_tee::{Pass, SharedTeeOver};
 use std::alloc::Global;
@@ -177,6 +178,21 @@ fn beside<R: Threads + Abort + Sync, V: Volume + Send, A: Application + Send>(
     );
 }
 
+/// A session of `vault` is posted, and then both are at work.
+fn post_and_stay<R: Threads + Abort + Sync, V: Volume + Send, A: Application + Send>(
+    rt: &R,
+    tee: &SharedTeeOver<V, A>,
+    passes: Vec<Pass<V, A>>,
+    latch: &Latch,
+)
+    requires { ArePasses tee.now passes.items }
+{
+    let (mut vault, keep) = two_passes(rt, tee, passes, 0, 8);
+    let posted = open(rt, tee, &mut vault, &Params::nothing()).is_ok();
+    assert!(rt; posted);
+    beside(rt, tee, vault, keep, latch);
+}
+
 #[test]
 fn no_call_of_keep_finds_vault_in_its_way(rt: HostRuntime) {
     let latch = Arc::new(rt.alloc(), Latch::new()).expect(&rt, "a latch");
@@ -184,11 +200,8 @@ fn no_call_of_keep_finds_vault_in_its_way(rt: HostRuntime) {
     let vault = Staying {
         latch: Some(theirs),
     };
-    let keep = Staying { latch: None };
-    let (tee, mut vault, keep) = with_two(&rt, rt.alloc(), (vault, keep), 0, 8);
-    let posted = open(&rt, &tee, &mut vault, &Params::nothing()).is_ok();
-    assert!(&rt; posted);
-    beside(&rt, &tee, vault, keep, &latch);
+    let (tee, passes) = begun(&rt, rt.alloc(), vault, Staying { latch: None });
+    post_and_stay(&rt, &tee, passes, &latch);
     drop(tee);
     drop(latch);
 }

@@ -26,8 +26,10 @@ const KEY: [u8; 32] = [7; 32];
 
 const BLOCKS: u64 = 43_720;
 
+pub const SEED: [u8; 32] = [9; 32];
+
 /// How many passes two applications have.
-const PASSES: usize = 16;
+pub const PASSES: usize = 16;
 
 /// The bytes in memory of their own.
 pub fn bytes(rt: &impl Abort, alloc: Global, from: &[u8]) -> Bytes {
@@ -54,7 +56,7 @@ fn host<A: Application>(
 }
 
 /// The hosts `vault` and `keep`.
-fn hosts<A: Application>(rt: &impl Abort, alloc: Global, vault: A, keep: A) -> Vec<Host<A>>
+pub fn hosts<A: Application>(rt: &impl Abort, alloc: Global, vault: A, keep: A) -> Vec<Host<A>>
     ensures { HostsFit result.items }
 {
     let mut hosts = Vec::new(alloc);
@@ -72,12 +74,11 @@ fn opened<A: Application>(
     alloc: Global,
     board: MemBoard,
     hosts: Vec<Host<A>>,
-    seed: [u8; 32],
 ) -> Result<(Runtime<A>, Vec<OnePass<A>>), OpenAnswer>
     requires { HostsFit hosts.items }
     ensures { IfOk result (λ made. ArePasses made.0 made.1.items) }
 {
-    match SharedTee::new(alloc, board, hosts, seed) {
+    match SharedTee::new(alloc, board, hosts, SEED) {
         Ok(made) => Ok(made),
         Err(unopened) => {
             let Unopened { board, why } = unopened;
@@ -87,38 +88,36 @@ fn opened<A: Application>(
     }
 }
 
-/// Applications over a blank board, and all passes.
+/// `vault` and `keep` over a blank board, and all passes. Those of `vault` are the first eight.
 pub fn begun<A: Application>(
     rt: &impl Abort,
     alloc: Global,
-    hosts: Vec<Host<A>>,
-    seed: [u8; 32],
+    vault: A,
+    keep: A,
 ) -> (Runtime<A>, Vec<OnePass<A>>)
-    requires { HostsFit hosts.items }
     ensures { ArePasses result.0 result.1.items }
 {
+    let hosts = hosts(rt, alloc, vault, keep);
     let board = MemBoard::blank(alloc, KEY, BLOCKS).expect(rt, "a board");
-    opened(alloc, board, hosts, seed).expect(rt, "a beginning")
+    opened(alloc, board, hosts).expect(rt, "a beginning")
 }
 
-/// `vault` and `keep` with the passes at two places. Those of `vault` are the first eight.
-pub fn with_two<A: Application>(
+/// The passes at two places. The others are dropped.
+pub fn two_passes<V: Volume, A: Application>(
     rt: &impl Abort,
-    alloc: Global,
-    templates: (A, A),
+    tee: &SharedTeeOver<V, A>,
+    passes: Vec<Pass<V, A>>,
     first: usize,
     second: usize,
-) -> (Runtime<A>, OnePass<A>, OnePass<A>)
+) -> (Pass<V, A>, Pass<V, A>)
+    requires all { ArePasses tee.now passes.items }
     requires order { first < second }
     requires there { second < 16 }
-    ensures first { IsPassOf result.0 result.1 }
-    ensures second { IsPassOf result.0 result.2 }
+    ensures first { IsPassOf tee.now result.0 }
+    ensures second { IsPassOf tee.now result.1 }
 {
-    let (vault, keep) = templates;
-    let (tee, passes) = begun(rt, alloc, hosts(rt, alloc, vault, keep), [0; 32]);
     assert!(rt; passes.len() == PASSES);
-    let (one, other) = pair_of(passes, first, second);
-    (tee, one, other)
+    pair_of(passes, first, second)
 }
 
 /// The pass may make a call.
