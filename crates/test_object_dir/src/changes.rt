@@ -4,15 +4,14 @@ ghost use Rattle.std.specs.Prelude.{◌<◌};
 ghost use Rattle.store_api.specs.Limits.{IsChange};
 ghost use Rattle.tee_base.specs.declared.limits.TheConstants.{MAX_HOSTS};
 
-use super::memory::{Memory, blank};
+use super::memory::blank;
 use super::over::change_over;
 use super::same::are_same;
 use super::steps::{Step, change_of};
 use object_dir::ObjectDir;
 use std::alloc::Global;
 use std::process::Abort;
-use std::test::Fail;
-use store_api::{AppStore, Change, MapStore, Volume};
+use store_api::{AppStore, Change, MapStore, StoreAnswer, Volume};
 
 pub const STEPS: &[Step] = &[
     Step::Delete(b'a'),
@@ -33,36 +32,41 @@ pub const STEPS: &[Step] = &[
 ];
 
 /// Makes a change in a store.
-pub fn make_in<S: AppStore>(alloc: Global, store: &mut S, step: Step) -> Result<(), Fail> {
-    let change = change_of(alloc, step)?;
-    let answer = store.apply(&change);
+pub fn make_in<S: AppStore>(rt: &impl Abort, alloc: Global, store: &mut S, step: Step) {
+    let change = change_of(rt, alloc, step);
+    let made = store.apply(&change).is_ok();
     drop(change);
-    answer?;
-    Ok(())
+    assert!(rt; made);
 }
 
-/// Makes a change of the objects of a region of a volume.
-pub fn make<V: Volume>(alloc: Global, volume: &mut V, region: u8, step: Step) -> Result<(), Fail>
+/// Makes a change of the objects of a region of a volume, and gives the answer.
+pub fn make<V: Volume>(
+    rt: &impl Abort,
+    alloc: Global,
+    volume: &mut V,
+    region: u8,
+    step: Step,
+) -> Result<(), StoreAnswer>
     requires { region < MAX_HOSTS }
 {
-    let change = change_of(alloc, step)?;
+    let change = change_of(rt, alloc, step);
     let answer = change_over(alloc, volume, region, &change);
     drop(change);
-    answer?;
-    Ok(())
+    answer
 }
 
 /// Whether a region of a volume and another store have the same objects.
 pub fn has_same<V: Volume, S: AppStore>(
+    rt: &impl Abort,
     alloc: Global,
     volume: &mut V,
     region: u8,
     store: &mut S,
-) -> Result<bool, Fail>
+) -> bool
     requires { region < MAX_HOSTS }
 {
     let mut objects = ObjectDir::of(alloc, volume, region);
-    are_same(alloc, &mut objects, store, 9)
+    are_same(rt, alloc, &mut objects, store, 9)
 }
 
 /// Makes a change in two stores, and says whether they answer alike.
@@ -75,81 +79,44 @@ pub fn answer_alike<S: AppStore, T: AppStore>(one: &mut S, other: &mut T, change
 /// Makes a change in a region of a volume and in another store, and says whether they answer alike and have the same
 /// objects then.
 fn is_alike<V: Volume, S: AppStore>(
+    rt: &impl Abort,
     alloc: Global,
     volume: &mut V,
     region: u8,
     store: &mut S,
     step: Step,
-) -> Result<bool, Fail>
+) -> bool
     requires { region < MAX_HOSTS }
 {
-    let change = change_of(alloc, step)?;
+    let change = change_of(rt, alloc, step);
     let mut objects = ObjectDir::of(alloc, volume, region);
     let alike = answer_alike(&mut objects, store, &change);
     drop(change);
-    if !alike {
-        return Ok(false);
-    }
-    are_same(alloc, &mut objects, store, 9)
+    alike && are_same(rt, alloc, &mut objects, store, 9)
 }
 
-/// The first row where they differ, if there is one.
-fn first_unlike<V: Volume, S: AppStore>(
+/// A region goes through all rows as another store does.
+fn check_steps<V: Volume, S: AppStore>(
+    rt: &impl Abort,
     alloc: Global,
     volume: &mut V,
     region: u8,
     store: &mut S,
-) -> Result<Option<usize>, Fail>
+)
     requires { region < MAX_HOSTS }
 {
     for (place, step) in STEPS.iter().enumerate() {
-        if !is_alike(alloc, volume, region, store, *step)? {
-            return Ok(Some(place));
-        }
+        let alike = is_alike(rt, alloc, volume, region, store, *step);
+        assert!(rt; alike, "step {place}");
     }
-    Ok(None)
 }
 
-/// Whether a region of a volume goes through all rows as a store in memory does.
-pub fn is_as_in_memory<V: Volume>(alloc: Global, volume: &mut V, region: u8) -> Result<bool, Fail>
-    requires { region < MAX_HOSTS }
-{
-    let mut store = MapStore::new(alloc, &[])?;
-    let place = first_unlike(alloc, volume, region, &mut store);
-    drop(store);
-    Ok(place? == None)
-}
-
-/// What is made in another region first.
-const OTHER: Step = Step::New(b'k', 2000);
-
-/// Whether the object that was made there is still the one in the region.
-fn is_that_one<V: Volume>(alloc: Global, volume: &mut V, region: u8) -> Result<bool, Fail>
-    requires { region < MAX_HOSTS }
-{
-    let mut store = MapStore::new(alloc, &[])?;
-    let same = match make_in(alloc, &mut store, OTHER) {
-        Ok(()) => has_same(alloc, volume, region, &mut store),
-        Err(failed) => Err(failed),
-    };
-    drop(store);
-    same
-}
-
-/// Each change of a region answers alike and leaves the same objects, and another region stays.
-fn check(rt: &impl Abort, alloc: Global, volume: &mut Memory) -> Result<(), Fail> {
-    make(alloc, volume, 4, OTHER)?;
-    assert!(rt; is_as_in_memory(alloc, volume, 3)?);
-    assert!(rt; is_that_one(alloc, volume, 4)?);
-    Ok(())
-}
-
-/// Each change answers alike and leaves the same objects, and no region but its own changes.
+/// Each change answers alike and leaves the same objects.
 #[test]
-fn as_in_memory(rt: HostRuntime) -> Result<(), Fail> {
-    let alloc = rt.alloc();
-    let mut volume = blank(alloc)?;
-    let checked = check(&rt, alloc, &mut volume);
+fn as_in_memory(rt: HostRuntime) {
+    let mut volume = blank(&rt, rt.alloc());
+    let mut store = MapStore::new(rt.alloc(), &[]).expect(&rt, "a store");
+    check_steps(&rt, rt.alloc(), &mut volume, 3, &mut store);
+    drop(store);
     drop(volume);
-    checked
 }

@@ -1,4 +1,4 @@
-//! Objects in the regions of a volume in memory, and of one on a board.
+//! Objects in the regions of a volume in memory.
 #![tactic(auto)]
 
 #[cfg(test)]
@@ -11,8 +11,6 @@ mod losses;
 mod many;
 #[cfg(test)]
 mod memory;
-#[cfg(test)]
-mod on_a_board;
 #[cfg(test)]
 mod over;
 #[cfg(test)]

@@ -1,6 +1,6 @@
 //! The table of changes among a thousand other objects, whose leaves are written as the format says.
 
-ghost use Rattle.std.specs.Prelude.{◌<◌, IfOk};
+ghost use Rattle.std.specs.Prelude.{◌<◌};
 ghost use Rattle.store_api.specs.Limits.{IsChange};
 ghost use Rattle.tee_base.specs.declared.limits.TheConstants.{MAX_HOSTS};
 
@@ -8,10 +8,10 @@ use super::changes::{STEPS, answer_alike};
 use super::memory::{Memory, blank, write};
 use super::same::are_same;
 use super::steps::{Step, change_of};
-use object_dir::{KeptDir, ObjectDir};
+use object_dir::KeptDir;
 use std::alloc::Global;
-use std::test::Fail;
-use store_api::{AppStore, Change, Leaf, MapStore};
+use std::process::Abort;
+use store_api::{AppStore, Change, Leaf, MapStore, Volume};
 use tee_base::Bytes;
 use tee_base::limits::BLOCK_BYTES;
 
@@ -70,95 +70,74 @@ fn fill(volume: &mut Memory) {
 }
 
 /// The change that makes the object of a leaf.
-fn put(alloc: Global, leaf: u16) -> Result<Change, Fail>
-    ensures { IfOk result (λ change. IsChange change) }
+fn put(rt: &impl Abort, alloc: Global, leaf: u16) -> Change
+    ensures { IsChange result }
 {
-    Ok(Change::Put {
-        id: Bytes::from_slice(alloc, &id_of(leaf))?,
+    Change::Put {
+        id: Bytes::from_slice(alloc, &id_of(leaf)).expect(rt, "an identifier"),
         kind: u32::from(leaf),
         usage: 0,
         secret: Bytes::empty(alloc),
         content: Bytes::empty(alloc),
         overwrite: false,
-    })
+    }
 }
 
 /// Makes the objects in a store.
-fn fill_store(alloc: Global, store: &mut MapStore) -> Result<(), Fail> {
+fn fill_store<S: AppStore>(rt: &impl Abort, alloc: Global, store: &mut S) {
     for leaf in FIRST..END {
-        let change = put(alloc, leaf)?;
-        let answer = store.apply(&change);
+        let change = put(rt, alloc, leaf);
+        let made = store.apply(&change).is_ok();
         drop(change);
-        answer?;
+        assert!(rt; made);
     }
-    Ok(())
 }
 
-/// Whether two stores answer alike at each step, and have the same objects behind the last one.
+/// Two stores answer alike at each step, and have the same objects behind the last one.
 fn go_alike<S: AppStore, T: AppStore>(
+    rt: &impl Abort,
     alloc: Global,
     objects: &mut S,
     store: &mut T,
     steps: &[Step],
-) -> Result<bool, Fail> {
+) {
     for step in steps {
-        let change = change_of(alloc, *step)?;
+        let change = change_of(rt, alloc, *step);
         let alike = answer_alike(objects, store, &change);
         drop(change);
-        if !alike {
-            return Ok(false);
-        }
+        assert!(rt; alike);
     }
-    are_same(alloc, objects, store, 1020)
+    assert!(rt; are_same(rt, alloc, objects, store, 1020));
 }
 
 /// The last rows of the table, which delete what the others made.
 const REMOVALS: usize = 2;
 
-/// Whether both go through the table alike, and have the same objects before the last rows and behind them.
+/// Both go through the table alike, and have the same objects before the last rows and behind them.
 fn go_through<S: AppStore, T: AppStore>(
+    rt: &impl Abort,
     alloc: Global,
     objects: &mut S,
     store: &mut T,
-) -> Result<bool, Fail> {
+) {
     let (changes, removals) = STEPS.split_at(STEPS.len() - REMOVALS);
-    Ok(go_alike(alloc, objects, store, changes)? && go_alike(alloc, objects, store, removals)?)
+    go_alike(rt, alloc, objects, store, changes);
+    go_alike(rt, alloc, objects, store, removals);
 }
 
-/// Whether the objects of a region go through the table as a store in memory does, with a directory that is kept or without.
-fn is_alike(
-    alloc: Global,
-    volume: &mut Memory,
-    store: &mut MapStore,
-    keeps: bool,
-) -> Result<bool, Fail> {
-    fill(volume);
-    fill_store(alloc, store)?;
-    if keeps {
-        go_through(alloc, &mut KeptDir::of(alloc, volume, REGION, None), store)
-    } else {
-        go_through(alloc, &mut ObjectDir::of(alloc, volume, REGION), store)
-    }
+/// The objects of the region, by a directory that is kept, go through the table as another store does.
+fn go_over<V: Volume, T: AppStore>(rt: &impl Abort, alloc: Global, volume: &mut V, store: &mut T) {
+    fill_store(rt, alloc, store);
+    let mut objects = KeptDir::of(alloc, volume, REGION, None);
+    go_through(rt, alloc, &mut objects, store);
 }
 
-/// Whether it is so over a volume and a store of their own.
-fn are_alike(alloc: Global, keeps: bool) -> Result<bool, Fail> {
-    let mut volume = blank(alloc)?;
-    let mut store = MapStore::new(alloc, &[])?;
-    let alike = is_alike(alloc, &mut volume, &mut store, keeps);
+#[test]
+fn kept_among_a_thousand(rt: HostRuntime) {
+    let mut volume = blank(&rt, rt.alloc());
+    fill(&mut volume);
+    let mut store = MapStore::new(rt.alloc(), &[]).expect(&rt, "a store");
+    go_over(&rt, rt.alloc(), &mut volume, &mut store);
     drop(store);
     drop(volume);
-    alike
-}
-
-#[test]
-fn among_a_thousand(rt: HostRuntime) -> Result<(), Fail> {
-    assert!(rt; are_alike(rt.alloc(), false)?);
-    Ok(())
-}
-
-#[test]
-fn kept_among_a_thousand(rt: HostRuntime) -> Result<(), Fail> {
-    assert!(rt; are_alike(rt.alloc(), true)?);
-    Ok(())
 }

@@ -6,7 +6,7 @@ ghost use Rattle.store_api.specs.Foundations.{no_foundation};
 ghost use Rattle.tee_base.specs.declared.limits.TheConstants.{LEAVES, MAX_HOSTS};
 
 use std::alloc::Global;
-use std::test::Fail;
+use std::process::Abort;
 use store_api::{Leaf, LeafAnswer, Leaves, Mismatch, Volume};
 use tee_base::limits::{BLOCK_BYTES, LEAVES, MAX_HOSTS};
 
@@ -61,17 +61,18 @@ pub struct Memory {
 }
 
 /// A volume of zeros.
-pub fn blank(alloc: Global) -> Result<Memory, Fail> {
+pub fn blank(rt: &impl Abort, alloc: Global) -> Memory {
     let mut leaves = Vec::new(alloc);
-    leaves.resize(MAX_HOSTS * LEAVES, [0; BLOCK_BYTES])?;
-    Ok(Memory {
+    let is_there = leaves.resize(MAX_HOSTS * LEAVES, [0; BLOCK_BYTES]).is_ok();
+    assert!(rt; is_there);
+    Memory {
         regions: Regions { leaves },
         sequence: 0,
         faults: 0,
         lost: false,
         ending: Ending::Works,
         damaged: None,
-    })
+    }
 }
 
 impl Memory {

@@ -1,10 +1,10 @@
 //! Changes of small objects.
 
-ghost use Rattle.std.specs.Prelude.{◌≡◌, ◌≤◌, IfOk, length};
+ghost use Rattle.std.specs.Prelude.{◌≡◌, ◌≤◌, length};
 ghost use Rattle.store_api.specs.Limits.{IsChange};
 
 use std::alloc::Global;
-use std::test::Fail;
+use std::process::Abort;
 use store_api::Change;
 use tee_base::Bytes;
 
@@ -22,48 +22,49 @@ pub enum Step {
 }
 
 /// So many bytes of one kind.
-fn painted(alloc: Global, byte: u8, count: u16) -> Result<Bytes, Fail>
-    ensures { IfOk result (λ bytes. length bytes ≡ count) }
+fn painted(rt: &impl Abort, alloc: Global, byte: u8, count: u16) -> Bytes
+    ensures { length result ≡ count }
 {
     let mut bytes = Vec::new(alloc);
-    bytes.resize(count as usize, byte)?;
-    Ok(Bytes::from_vec(bytes))
+    let is_there = bytes.resize(count as usize, byte).is_ok();
+    assert!(rt; is_there);
+    Bytes::from_vec(bytes)
 }
 
-fn put(alloc: Global, letter: u8, count: u16, overwrite: bool) -> Result<Change, Fail>
-    ensures { IfOk result (λ change. IsChange change) }
+fn put(rt: &impl Abort, alloc: Global, letter: u8, count: u16, overwrite: bool) -> Change
+    ensures { IsChange result }
 {
-    Ok(Change::Put {
-        id: painted(alloc, letter, 1)?,
+    Change::Put {
+        id: painted(rt, alloc, letter, 1),
         kind: u32::from(count),
         usage: u32::from(letter),
-        secret: painted(alloc, letter, 3)?,
-        content: painted(alloc, letter, count)?,
+        secret: painted(rt, alloc, letter, 3),
+        content: painted(rt, alloc, letter, count),
         overwrite,
-    })
+    }
 }
 
-pub fn change_of(alloc: Global, step: Step) -> Result<Change, Fail>
-    ensures { IfOk result (λ change. IsChange change) }
+pub fn change_of(rt: &impl Abort, alloc: Global, step: Step) -> Change
+    ensures { IsChange result }
 {
     match step {
-        Step::New(letter, count) => put(alloc, letter, count, false),
-        Step::Overwrite(letter, count) => put(alloc, letter, count, true),
-        Step::Delete(letter) => Ok(Change::Delete {
-            id: painted(alloc, letter, 1)?,
-        }),
-        Step::Rename(letter, to) => Ok(Change::Rename {
-            id: painted(alloc, letter, 1)?,
-            to: painted(alloc, to, 1)?,
-        }),
-        Step::Write(letter, at, count) => Ok(Change::Write {
-            id: painted(alloc, letter, 1)?,
+        Step::New(letter, count) => put(rt, alloc, letter, count, false),
+        Step::Overwrite(letter, count) => put(rt, alloc, letter, count, true),
+        Step::Delete(letter) => Change::Delete {
+            id: painted(rt, alloc, letter, 1),
+        },
+        Step::Rename(letter, to) => Change::Rename {
+            id: painted(rt, alloc, letter, 1),
+            to: painted(rt, alloc, to, 1),
+        },
+        Step::Write(letter, at, count) => Change::Write {
+            id: painted(rt, alloc, letter, 1),
             at: u32::from(at),
-            bytes: painted(alloc, 100, count)?,
-        }),
-        Step::Truncate(letter, length) => Ok(Change::Truncate {
-            id: painted(alloc, letter, 1)?,
+            bytes: painted(rt, alloc, 100, count),
+        },
+        Step::Truncate(letter, length) => Change::Truncate {
+            id: painted(rt, alloc, letter, 1),
             length,
-        }),
+        },
     }
 }
