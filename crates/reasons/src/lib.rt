@@ -3,8 +3,6 @@
 
 mod grammar;
 mod line;
-#[cfg(test)]
-mod tests;
 mod wanted;
 
 pub use line::line_reason;

@@ -1,7 +1,7 @@
 //! What the words of the command line ask for.
 
 /// What the words ask of `main`.
-#[derive(Clone, Copy, Debug, PartialEq, Eq)]
+#[derive(Clone, Copy)]
 pub enum Asked<'a> {
     Help,
     Version,

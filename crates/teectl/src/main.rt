@@ -4,13 +4,9 @@
 mod blank;
 mod check;
 mod command;
-#[cfg(test)]
-mod handed_in;
 mod kept;
 mod listing;
 mod racing;
-#[cfg(test)]
-mod tests;
 mod texts;
 mod why;
 mod words;

@@ -2,8 +2,6 @@
 
 mod files;
 mod refusals;
-#[cfg(test)]
-mod said;
 
 use crate::why::files::{Found, file_reason, folder_of, path_of};
 use crate::why::refusals::refusal_reason;

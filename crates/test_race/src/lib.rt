@@ -1,21 +1,16 @@
-//! Races of whole scripts: rows by hand, scripts by chance with their logs judged, and each status.
+//! What a race does that its printed logs don't show: two clients at their lines at once, a board that is written meanwhile, and
+//! streams and boards that fail.
 #![tactic(auto)]
 
 #[cfg(test)]
 mod counted;
 #[cfg(test)]
-mod drawn;
-#[cfg(test)]
-mod judged;
-#[cfg(test)]
-mod legal;
-#[cfg(test)]
 mod meeting;
 #[cfg(test)]
 mod racing;
 #[cfg(test)]
-mod rows;
-#[cfg(test)]
 mod statuses;
+#[cfg(test)]
+mod together;
 #[cfg(test)]
 mod written;

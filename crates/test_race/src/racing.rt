@@ -8,8 +8,8 @@ use std::alloc::Global;
 use std::process::Abort;
 use std::sync::Wait;
 use std::thread::Threads;
-use tee_base::{Bytes, MemSink, MemSource, limits};
-use tee_top::{Status, race_tee};
+use tee_base::{Bytes, MemSink, MemSource};
+use tee_top::race_tee;
 
 /// The word of a race, its script, and the numbers of the reads and writes that fail.
 #[derive(Clone, Copy)]
@@ -20,15 +20,13 @@ pub struct Asked<'a> {
     pub writes: &'a [u64],
 }
 
-impl<'a> Asked<'a> {
-    /// A race of this script in which nothing fails.
-    pub fn of(script: &'a str) -> Asked<'a> {
-        Asked {
-            word: "race",
-            script,
-            reads: &[],
-            writes: &[],
-        }
+/// A race of this script in which nothing fails.
+pub fn race_of(script: &str) -> Asked<'_> {
+    Asked {
+        word: "race",
+        script,
+        reads: &[],
+        writes: &[],
     }
 }
 
@@ -37,18 +35,18 @@ pub fn blank(rt: &impl Abort, alloc: Global, blocks: u64) -> MemBoard {
     MemBoard::blank(alloc, [0; 32], blocks).expect(rt, "a board")
 }
 
-/// The status of a race over this board, and what it wrote.
-pub fn race_on<R: Threads + Wait + Sync + Abort, B: Board + Drop + Send, G: Gate>(
+/// Races the script over this board, with what it writes in the sink. The number of its status.
+fn race_into<R: Threads + Wait + Sync + Abort, B: Board + Drop + Send, G: Gate>(
     rt: &R,
     alloc: Global,
     asked: Asked<'_>,
     board: B,
     gate: &G,
-) -> (Status, MemSink) {
+    sink: &mut MemSink,
+) -> u8 {
     let words = [String::from_str(alloc, asked.word).expect(rt, "a word")];
     let text = Bytes::from_slice(alloc, asked.script.as_bytes()).expect(rt, "a script");
     let mut source = MemSource::new(alloc, text, asked.reads).expect(rt, "a source");
-    let mut sink = MemSink::new(alloc, asked.writes).expect(rt, "a sink");
     let hosts = sample_hosts(alloc).expect(rt, "hosts");
     let words = words.as_slice();
     let (status, board) = race_tee(
@@ -56,45 +54,31 @@ pub fn race_on<R: Threads + Wait + Sync + Abort, B: Board + Drop + Send, G: Gate
         alloc,
         words,
         &mut source,
-        &mut sink,
+        sink,
         board,
         hosts,
         [0; 32],
         gate,
     );
     drop(board);
-    (status, sink)
+    drop(source);
+    status.number()
 }
 
-/// What a race of this script over a blank board wrote. It has to be Done.
-pub fn raced<R: Threads + Wait + Sync + Abort, G: Gate>(
+/// The number of the status of a race over this board, and what it wrote.
+pub fn race_on<R: Threads + Wait + Sync + Abort, B: Board + Drop + Send, G: Gate>(
     rt: &R,
     alloc: Global,
-    script: &str,
+    asked: Asked<'_>,
+    board: B,
     gate: &G,
-) -> MemSink {
-    let board = blank(rt, alloc, limits::BOARD_BLOCKS);
-    let (status, sink) = race_on(rt, alloc, Asked::of(script), board, gate);
-    assert!(rt; status == Status::Done);
-    sink
-}
-
-/// Whether a line is a reply of this host.
-fn is_reply(line: &[u8], name: &[u8]) -> bool {
-    match line.strip_prefix(name) {
-        Some([b' ', digit, ..]) => digit.is_ascii_digit(),
-        _ => false,
-    }
-}
-
-/// The lines of a host's replies in what a race wrote.
-pub fn replies_of(rt: &impl Abort, alloc: Global, written: &[u8], name: &[u8]) -> Vec<u8> {
-    let mut replies = Vec::new(alloc);
-    for line in written.split(|c| *c == b'\n') {
-        if is_reply(line, name) {
-            replies.extend_from_slice(line).expect(rt, "a line");
-            replies.push(b'\n').expect(rt, "a line's end");
-        }
-    }
-    replies
+) -> (u8, Vec<u8>) {
+    let mut sink = MemSink::new(alloc, asked.writes).expect(rt, "a sink");
+    let number = race_into(rt, alloc, asked, board, gate, &mut sink);
+    let mut written = Vec::new(alloc);
+    written
+        .extend_from_slice(sink.written())
+        .expect(rt, "what was written");
+    drop(sink);
+    (number, written)
 }

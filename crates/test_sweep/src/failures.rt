@@ -1,13 +1,15 @@
-//! The same run where a single call of the board fails, in place of a stop.
+//! A script that writes an object, and of which a single call of the board fails.
 
-use super::runs::{blank, check_left, has, run_on, said_by};
-use super::stops::CLEAN;
+use super::runs::{Ran, blank, run_on};
+use boards::MemBoard;
 use std::alloc::Global;
 use std::process::Abort;
-use std::test::Fail;
-use tee_top::Status;
 
-/// A script that writes three bytes over three others, and reads them behind a loss of power.
+/// What is written where no call fails.
+const CLEAN: &str = "vault 1 00000000 4\nvault 2 00000000 4 p3=1,0\nvault 3 00000000 4\n\
+board power clean\nvault 4 00000000 4\nvault 5 00000000 4 p2=1,0\nvault 6 00000000 4 p1=3:6e6577\n";
+
+/// A script that writes three bytes over three others, and reads them after a loss of power.
 fn whole_write(rt: &impl Abort, alloc: Global, pick: u8) -> String {
     format!(in alloc;
         "vault open 1\nvault invoke 1 2 mi:61 vi:7:0 mi:6f6c64 vo\nvault invoke 1 8 vi:1:0 mi:6e6577\n\
@@ -16,114 +18,99 @@ board power {pick}\nvault open 1\nvault invoke 1 1 mi:61 vi:1:1 vo\nvault invoke
     .expect(rt, "a script")
 }
 
-/// Whether the run met the failure: an opening was refused, or an application lost the storage.
-fn is_told(status: &Status, written: &[u8]) -> bool {
-    *status == Status::BoardFault || (*status == Status::Done && has(written, "board lost vault "))
+/// Whether the run met the failure: an opening failed, or an application lost the storage.
+fn is_told(ran: &Ran) -> bool {
+    ran.number == 75 || (ran.is_done() && ran.has("board lost vault "))
 }
 
-/// Fails this call: the failure is told, and the board has what the lines say. Whether there is no such call.
-fn is_done(rt: &impl Abort, alloc: Global, call: u64, pick: u8) -> Result<bool, Fail> {
-    let script = whole_write(rt, alloc, pick);
-    let mut board = blank(alloc)?;
-    board.failing(&[call])?;
-    let (status, sink, board) = run_on(rt, alloc, board, script.as_str());
-    if status == Status::Done && sink.written() == CLEAN.as_bytes() {
-        drop(board);
-        return Ok(true);
+/// A script that looks for the object, reads all of it, and lists the objects.
+const LOOK: &str = "vault open 1\nvault invoke 1 1 mi:61 vi:1:1 vo\nvault invoke 1 7 vi:1:8 mo:8\n\
+vault invoke 1 11 mo:64\n";
+
+const NOTHING_THERE: &str = "vault 1 00000000 4\nvault 2 ffff0008 4 p2=0,0\n";
+
+const OLD_THERE: &str =
+    "vault 1 00000000 4\nvault 2 00000000 4 p2=1,0\nvault 3 00000000 4 p1=3:6f6c64\n\
+vault 4 00000000 4 p0=2:0161\n";
+
+const NEW_THERE: &str =
+    "vault 1 00000000 4\nvault 2 00000000 4 p2=1,0\nvault 3 00000000 4 p1=3:6e6577\n\
+vault 4 00000000 4 p0=2:0161\n";
+
+/// What a look writes first after a run with these lines. Of the object's making and its writing the lines tell whether each was answered with
+/// success, and whether a loss of power kept the one in doubt.
+fn wanted_after(ran: &Ran) -> &'static str {
+    let made = ran.has("vault 2 00000000 4 p3=1,0\n");
+    let put = ran.has("vault 3 00000000 4\n");
+    let kept = ran.has("board power kept vault\n");
+    if put || (made && kept) {
+        return NEW_THERE;
     }
-    assert!(rt; is_told(&status, sink.written()));
-    check_left(rt, alloc, board, said_by(sink.written()));
-    Ok(false)
+    if made || kept {
+        OLD_THERE
+    } else {
+        NOTHING_THERE
+    }
 }
 
-/// The same for each call of the run.
-fn sweep(rt: &impl Abort, alloc: Global, pick: u8) -> Result<(), Fail> {
+/// Whether a later run over the board writes this first.
+fn finds(rt: &impl Abort, alloc: Global, board: MemBoard, wanted: &str) -> bool {
+    let (looked, board) = run_on(rt, alloc, board, LOOK);
+    drop(board);
+    looked.is_done() && looked.written.as_slice().starts_with(wanted.as_bytes())
+}
+
+/// How a run ends whose call of some number fails.
+enum Failure {
+    /// There is no such call.
+    NoCall,
+    /// The failure is told, and the board has what the lines say.
+    Told,
+    Wrong,
+}
+
+/// Fails this call.
+fn failed_at(rt: &impl Abort, alloc: Global, call: u64, pick: u8) -> Failure {
+    let mut board = blank(rt, alloc);
+    board.failing(&[call]).expect(rt, "a schedule");
+    let script = whole_write(rt, alloc, pick);
+    let (ran, board) = run_on(rt, alloc, board, script.as_str());
+    if ran.is_done() && ran.wrote(CLEAN) {
+        drop(board);
+        return Failure::NoCall;
+    }
+    if is_told(&ran) & finds(rt, alloc, board, wanted_after(&ran)) {
+        Failure::Told
+    } else {
+        Failure::Wrong
+    }
+}
+
+/// Fails each call in turn. How many there are, if each failure is told.
+fn calls_told(rt: &impl Abort, alloc: Global, pick: u8) -> Option<u64> {
     for call in 0..512 {
-        if is_done(rt, alloc, call, pick)? {
-            assert!(rt; call > 0);
-            return Ok(());
+        match failed_at(rt, alloc, call, pick) {
+            Failure::NoCall => return Some(call),
+            Failure::Told => {}
+            Failure::Wrong => return None,
         }
     }
-    assert!(rt; false);
-    Ok(())
+    None
+}
+
+/// Whether a run has many calls, and each that fails is told with these picks of what a loss of power leaves.
+fn are_told(rt: &impl Abort, alloc: Global, picks: &[u8]) -> bool {
+    for pick in picks {
+        match calls_told(rt, alloc, *pick) {
+            Some(calls) if calls > 50 => {}
+            _ => return false,
+        }
+    }
+    true
 }
 
 #[test]
-fn a_single_call_fails_with_pick_0(rt: HostRuntime) -> Result<(), Fail> {
-    sweep(&rt, rt.alloc(), 0)
-}
-
-#[test]
-fn a_single_call_fails_with_pick_1(rt: HostRuntime) -> Result<(), Fail> {
-    sweep(&rt, rt.alloc(), 1)
-}
-
-#[test]
-fn a_single_call_fails_with_pick_2(rt: HostRuntime) -> Result<(), Fail> {
-    sweep(&rt, rt.alloc(), 2)
-}
-
-#[test]
-fn a_single_call_fails_with_pick_3(rt: HostRuntime) -> Result<(), Fail> {
-    sweep(&rt, rt.alloc(), 3)
-}
-
-#[test]
-fn a_single_call_fails_with_pick_4(rt: HostRuntime) -> Result<(), Fail> {
-    sweep(&rt, rt.alloc(), 4)
-}
-
-#[test]
-fn a_single_call_fails_with_pick_5(rt: HostRuntime) -> Result<(), Fail> {
-    sweep(&rt, rt.alloc(), 5)
-}
-
-#[test]
-fn a_single_call_fails_with_pick_6(rt: HostRuntime) -> Result<(), Fail> {
-    sweep(&rt, rt.alloc(), 6)
-}
-
-#[test]
-fn a_single_call_fails_with_pick_7(rt: HostRuntime) -> Result<(), Fail> {
-    sweep(&rt, rt.alloc(), 7)
-}
-
-#[test]
-fn a_single_call_fails_with_pick_8(rt: HostRuntime) -> Result<(), Fail> {
-    sweep(&rt, rt.alloc(), 8)
-}
-
-#[test]
-fn a_single_call_fails_with_pick_9(rt: HostRuntime) -> Result<(), Fail> {
-    sweep(&rt, rt.alloc(), 9)
-}
-
-#[test]
-fn a_single_call_fails_with_pick_10(rt: HostRuntime) -> Result<(), Fail> {
-    sweep(&rt, rt.alloc(), 10)
-}
-
-#[test]
-fn a_single_call_fails_with_pick_11(rt: HostRuntime) -> Result<(), Fail> {
-    sweep(&rt, rt.alloc(), 11)
-}
-
-#[test]
-fn a_single_call_fails_with_pick_12(rt: HostRuntime) -> Result<(), Fail> {
-    sweep(&rt, rt.alloc(), 12)
-}
-
-#[test]
-fn a_single_call_fails_with_pick_13(rt: HostRuntime) -> Result<(), Fail> {
-    sweep(&rt, rt.alloc(), 13)
-}
-
-#[test]
-fn a_single_call_fails_with_pick_14(rt: HostRuntime) -> Result<(), Fail> {
-    sweep(&rt, rt.alloc(), 14)
-}
-
-#[test]
-fn a_single_call_fails_with_pick_15(rt: HostRuntime) -> Result<(), Fail> {
-    sweep(&rt, rt.alloc(), 15)
+fn a_single_call_fails_with_each_of_sixteen_picks(rt: HostRuntime) {
+    let picks = [0, 1, 2, 3, 4, 5, 6, 7, 8, 9, 10, 11, 12, 13, 14, 15];
+    assert!(rt; are_told(&rt, rt.alloc(), &picks));
 }

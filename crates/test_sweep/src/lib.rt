@@ -1,16 +1,14 @@
-//! Whole scripts over a board in memory that is stopped at each of its calls, that fails at a single one, or that holds
-//! what was changed.
+//! Whole scripts and a workload over a board in memory that fails at a single call, that is too small, or that has an image of the
+//! first version; and how each status is told.
 #![tactic(auto)]
 
 #[cfg(test)]
-mod changed;
-#[cfg(test)]
 mod failures;
-#[cfg(test)]
-mod left;
 #[cfg(test)]
 mod migrated;
 #[cfg(test)]
+mod refused;
+#[cfg(test)]
 mod runs;
 #[cfg(test)]
-mod stops;
+mod statuses;

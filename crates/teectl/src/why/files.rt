@@ -3,10 +3,9 @@
 use boards::{BoardFile, FileFailure, FileFault};
 use std::alloc::{AllocError, Global};
 use std::path::Path;
-use tee_base::limits;
 
 /// What a look at the files finds after an opening failed.
-#[derive(Clone, Copy, Debug, PartialEq, Eq)]
+#[derive(Clone, Copy)]
 pub struct Found {
     /// The folder of the image is there.
     pub has_folder: bool,

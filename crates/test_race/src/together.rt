@@ -1,0 +1,59 @@
+//! Two clients that are at their lines at once.
+
+use super::meeting::Meeting;
+use super::racing::{blank, race_of, race_on};
+use std::alloc::Global;
+use std::process::Abort;
+use tee_base::limits;
+
+/// One client uses its objects while another one's application takes all of its own space, and panics.
+const ISOLATED: &str = "\
+vault open 1
+client 1
+rogue open 1
+rogue invoke 1 4 vo
+client 0
+vault invoke 1 2 mi:61 vi:3:0 mi:31 vo
+client 1
+rogue invoke 1 1 vi:9:0
+client 0
+vault close 1
+";
+
+/// The replies to the first client.
+const REPLIES: &str = "\
+vault 1 00000000 4
+vault 2 00000000 4 p3=1,0
+vault 3 00000000 4
+";
+
+/// Whether a line is a reply of the first client's application.
+fn is_reply(line: &[u8]) -> bool {
+    match line.strip_prefix(b"vault ") {
+        Some([digit, ..]) => digit.is_ascii_digit(),
+        _ => false,
+    }
+}
+
+/// The lines of its replies in what a race wrote.
+fn replies_of(rt: &impl Abort, alloc: Global, written: &[u8]) -> Vec<u8> {
+    let mut replies = Vec::new(alloc);
+    for line in written.split(|c| *c == b'\n') {
+        if is_reply(line) {
+            replies.extend_from_slice(line).expect(rt, "a line");
+            replies.push(b'\n').expect(rt, "a line's end");
+        }
+    }
+    replies
+}
+
+#[test]
+fn two_clients_are_at_their_lines_at_once(rt: HostRuntime) {
+    let alloc = rt.alloc();
+    let gate = Meeting::new();
+    let board = blank(&rt, alloc, limits::BOARD_BLOCKS);
+    let (number, written) = race_on(&rt, alloc, race_of(ISOLATED), board, &gate);
+    let replies = replies_of(&rt, alloc, written.as_slice());
+    assert!(rt; number == 0 && replies.as_slice() == REPLIES.as_bytes());
+    assert!(rt; gate.have_met());
+}
