@@ -65,7 +65,7 @@ fn return_with(code: Code) -> Ask
 }
 
 fn create(alloc: Global) -> Result<Ask, NoMemory>
-    ensures { IfOk result (λ ask. ask ≡ player.create) }
+    ensures { IfOk result (λ ask. ask ≡ player.making) }
 {
     Ok(Ask::ObjCreate {
         storage: 1,
@@ -77,7 +77,7 @@ fn create(alloc: Global) -> Result<Ask, NoMemory>
 }
 
 fn open(alloc: Global) -> Result<Ask, NoMemory>
-    ensures { IfOk result (λ ask. ask ≡ player.open) }
+    ensures { IfOk result (λ ask. ask ≡ player.opening) }
 {
     Ok(Ask::ObjOpen {
         storage: 1,
