@@ -29,7 +29,7 @@ vault 3 00000000 4
 
 /// Whether a line is a reply of the first client's application.
 fn is_reply(line: &[u8]) -> bool {
-    match line.strip_prefix(b"vault ") {
+    match line.strip_prefix(b"vault ".as_slice()) {
         Some([digit, ..]) => digit.is_ascii_digit(),
         _ => false,
     }

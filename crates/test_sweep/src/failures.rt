@@ -79,7 +79,8 @@ fn failed_at(rt: &impl Abort, alloc: Global, call: u64, pick: u8) -> Failure {
         drop(board);
         return Failure::NoCall;
     }
-    if is_told(&ran) & finds(rt, alloc, board, wanted_after(&ran)) {
+    let is_found = finds(rt, alloc, board, wanted_after(&ran));
+    if is_told(&ran) && is_found {
         Failure::Told
     } else {
         Failure::Wrong
@@ -102,7 +103,7 @@ fn calls_told(rt: &impl Abort, alloc: Global, pick: u8) -> Option<u64> {
 fn are_told(rt: &impl Abort, alloc: Global, picks: &[u8]) -> bool {
     for pick in picks {
         match calls_told(rt, alloc, *pick) {
-            Some(calls) if calls > 50 => {}
+            Some(calls) if calls > 20 => {}
             _ => return false,
         }
     }

@@ -124,10 +124,11 @@ fn is_told(rt: &impl Abort, alloc: Global, status: &Status, number: u8, told: &s
         Bytes::from_slice(alloc, b"vault").expect(rt, "a name"),
         Bytes::from_slice(alloc, b"twin").expect(rt, "a name"),
     ];
+    let names = names.as_slice();
     if let Status::LogFull(app) = status {
         assert!(rt; usize::from(*app) < names.len());
     }
-    let line = status_line(alloc, status, &names).expect(rt, "a line");
+    let line = status_line(alloc, status, names).expect(rt, "a line");
     status.number() == number && line.as_slice() == told.as_bytes()
 }
 
