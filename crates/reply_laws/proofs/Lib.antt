@@ -6,5 +6,6 @@ pub mod Idle
 pub mod Gone
 pub mod Cancelled
 pub mod Outcomes
+pub mod Taken
 pub mod Turned
 pub mod Replied

@@ -1,5 +1,6 @@
 -- What becomes of each unanswered operation at an event (TEE Client API 1.0, sections 4.5.5 to 4.5.8).
 use Rattle.app_api.specs.Behaviours.{Behaviour}
+use Rattle.app_api.specs.declared.call.Call.{Call}
 use Rattle.std.specs.Prelude.{ℕ, ◌≡◌, ◌==◌, ◌⊎◌, Bool, true, List, is_some}
 use Rattle.std.specs.List.{list_any}
 use Rattle.op_queue.specs.Queue.{operation_of}
@@ -31,3 +32,9 @@ abbrev pub RepliesToEach : {A : Type 0} → Behaviour A → Machine A → Event 
 RepliesToEach behaviour m event =
     let s = step behaviour m event in
     (op : ℕ) → is_unanswered m op ≡ true → (is_unanswered s.machine op ≡ true) ⊎ (has_reply op s.replies ≡ true)
+
+-- the operation of a client's call, which has the next number, is unanswered after the call, or the call itself replies to it
+abbrev pub RepliesOrWaits : {A : Type 0} → Behaviour A → Machine A → ℕ → Call → Type 0
+RepliesOrWaits behaviour m client call =
+    let s = step behaviour m (Called client call) in
+    (is_unanswered s.machine m.queue.next ≡ true) ⊎ (has_reply m.queue.next s.replies ≡ true)

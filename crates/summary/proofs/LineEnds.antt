@@ -1,7 +1,7 @@
 -- A line that ends.
-use Rattle.std.proofs.Common.{◌≡◌, ◌==◌, ℕ, false, List, [], ◌∷◌, ◌++◌, refl, ap, sym, ◌∙◌, subst, append_assoc, append-nil}
+use Rattle.std.proofs.Common.{◌≡◌, ◌==◌, ℕ, false, List, [], ◌∷◌, ◌++◌, None, ap, sym, ◌∙◌, subst, append_assoc, append-nil}
 use Rattle.std.specs.Prelude.{codes}
-use Rattle.std.specs.List.{AllByRecursion, flat_map}
+use Rattle.std.specs.List.{AllByRecursion}
 use Rattle.std.proofs.lemmas.Grind.{flat_map-append}
 use Rattle.std.proofs.lemmas.List.Elements.{filter_map-append}
 use Rattle.mac_digest.specs.declared.digests.Hash.TheVariants.{Sha256}
@@ -36,15 +36,17 @@ has_ended text line lines has own = record {
   own = all_push (λ l. begins_with (codes "board ") l ≡ false) lines line has.own own;
 }
 
-pub line_ended : (text line : List ℕ) (old new : List (ℕ × ℕ)) (before between after : Digester) (then empty : List ℕ) → IsSummed text line old before → begins_with (codes "board ") line ≡ false →
+pub line_ended : (text line : List ℕ) (old new : List (ℕ × ℕ)) (before between after : Digester) (then empty : List ℕ) → IsSummed text line old before None
+    → begins_with (codes "board ") line ≡ false →
     ((found : List ℕ) → IsTally found old → IsTally (found ++ codes_in (line ∷ [])) new) →
     ((message : List ℕ) → HoldsMessage before Sha256 message → HoldsMessage between Sha256 (message ++ line)) →
     ((message : List ℕ) → HoldsMessage between Sha256 message → HoldsMessage after Sha256 (message ++ codes "\n")) →
-    then ≡ text ++ 10 ∷ [] → empty ≡ [] → IsSummed then empty new after
+    then ≡ text ++ 10 ∷ [] → empty ≡ [] → IsSummed then empty new after None
 line_ended text line old new before between after then empty summed own counts first second is none = record {
   lines = summed.lines ++ line ∷ [];
   has = subst (λ t. HasLines t (summed.lines ++ line ∷ []) empty) (sym is)
       (subst (λ e. HasLines (text ++ 10 ∷ []) (summed.lines ++ line ∷ []) e) (sym none) (has_ended text line summed.lines summed.has own));
+  by_line = tt;
   tally = subst (λ found. IsTally found new) (sym (filter_map-append code_in summed.lines (line ∷ []))) (counts (codes_in summed.lines) summed.tally);
   hashed = subst (HoldsMessage after Sha256) (sym (fed_push summed.lines line)) (second (with_line_feeds summed.lines ++ line) (first (with_line_feeds summed.lines) summed.hashed));
 }

@@ -1,16 +1,16 @@
 -- Codes that are counted.
-use Rattle.std.proofs.Common.{◌≡◌, ◌≤◌, ◌<◌, ◌+◌, ◌==◌, ℕ, Bool, true, false, cond, nat_lt, refl, List, Some, [], ◌∷◌, ◌++◌, count_by, unwrap_or, ap, sym, ◌∙◌, ⊎_elim, subst, arith, Option}
-use Rattle.std.specs.List.{AllByRecursion, filter_map}
+use Rattle.std.proofs.Common.{◌≡◌, ◌≤◌, ◌+◌, ◌==◌, ℕ, Bool, true, false, cond, nat_lt, List, Some, [], ◌∷◌, ◌++◌, count_by, unwrap_or, ap, sym, ◌∙◌, ⊎_elim, subst, arith, Option}
+use Rattle.std.specs.List.{AllByRecursion}
 use Rattle.std.specs.List.Sorted.{IsStrictlySortedBy}
 use Rattle.std.specs.Map.{keys_of}
-use Rattle.std.specs.BTreeMap.{BTreeMap, Updates, get, insert_entry, is_at}
+use Rattle.std.specs.BTreeMap.{BTreeMap, Updates, get, insert_entry}
 use Rattle.std.specs.Cmp.{nat_cmp_is}
 use Rattle.std.specs.Ordering.{is_eq, nat_cmp, match_ordering}
 use Rattle.std.specs.declared.cmp.Ordering.{Ordering}
 use Rattle.std.specs.declared.cmp.Ordering.TheVariants.{Less, Equal, Greater}
 use Rattle.std.proofs.lemmas.Bool.{cases_Bool, cases_eq, eq-eqb, eqb-true, ltb-true, ltb-false}
 use Rattle.std.proofs.lemmas.List.Sums.{sum_by_push}
-use Rattle.summary.specs.Codes.{IsTally, code_in, codes_in, count_at}
+use Rattle.summary.specs.Codes.{IsTally, count_at}
 
 -- ---- equal keys
 

@@ -12,6 +12,11 @@ use std::marker::Model;
 use tee_base::{NoMemory, Sink, SinkFailed};
 
 impl From<NoMemory> for Cut {
+    ghost use Rattle.std.specs.Prelude.{◌≡◌};
+    ghost use Rattle.summary.specs.declared.cut.Cut.TheVariants.{NoMemory as OutOfMemory};
+
+    ghost from_gives = { λ _ e. e ≡ OutOfMemory };
+
     fn from(_error: NoMemory) -> Cut {
         Cut::NoMemory
     }
@@ -36,18 +41,19 @@ impl Model for Summary {
 
     ghost Value = { Summing };
 
-    ghost view = { λ s. record { text = s.text; cut = s.cut; faults = s.faults } };
+    ghost view = { λ s.
+        record { text = s.text; line = s.line.items; cut = s.cut; faults = s.faults } };
 
-    ghost invariant = { λ s. IsSummed s.text s.line.items s.codes s.digester };
+    ghost invariant = { λ s. IsSummed s.text s.line.items s.codes s.digester s.cut };
 }
 
 impl Summary {
-    ghost use Rattle.std.specs.Prelude.{◌≡◌, ◌++◌, ◌∷◌, [], None, OnErr, OnOk};
-    ghost use Rattle.summary.specs.Summaries.{IsSummary, Summing};
+    ghost use Rattle.std.specs.Prelude.{◌≡◌, ◌++◌, ◌∷◌, [], None, Some, IfErr, OnErr, OnOk};
+    ghost use Rattle.summary.specs.Summaries.{IsCutAt, IsCutBy, IsSummary, Summing};
 
     /// Nothing was written.
     pub fn new(alloc: Global) -> Summary
-        ensures { result ≡ record { text = []; cut = None; faults = 0 } }
+        ensures { result ≡ record { text = []; line = []; cut = None; faults = 0 } }
     {
         Summary {
             alloc,
@@ -62,16 +68,19 @@ impl Summary {
 
     /// Why it took no more, if so.
     pub fn cut(&self) -> Option<Cut>
-        ensures { result ≡ self.now.cut }
+        ensures cut { result ≡ self.now.cut }
+        ensures at { IsCutAt self.now.text self.now.line result }
     {
         self.cut
     }
 
     /// Hashes the line, and counts its code.
     fn end_line(&mut self) -> Result<(), Cut>
+        requires { self.old.cut ≡ None }
         ensures ok { OnOk result
-            (self.new ≡ record self.old { text = self.old.text ++ 10 ∷ [] }) }
+            (self.new ≡ record self.old { text = self.old.text ++ 10 ∷ []; line = [] }) }
         ensures err { OnErr result (self.new ≡ self.old) }
+        ensures why { IfErr result (λ why. IsCutBy (Some why) self.old.line) }
     {
         let line = self.line.as_slice();
         if line.starts_with(b"board ") {
@@ -91,9 +100,11 @@ impl Summary {
 
     /// Takes one byte.
     fn take(&mut self, byte: u8) -> Result<(), Cut>
-        ensures ok { OnOk result
-            (self.new ≡ record self.old { text = self.old.text ++ byte ∷ [] }) }
+        requires { self.old.cut ≡ None }
+        ensures ok { OnOk result (self.new
+            ≡ record self.old { text = self.old.text ++ byte ∷ []; line = self.new.line }) }
         ensures err { OnErr result (self.new ≡ self.old) }
+        ensures why { IfErr result (λ why. IsCutBy (Some why) self.old.line) }
     {
         if byte == b'\n' {
             return self.end_line();
