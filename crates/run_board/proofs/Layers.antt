@@ -41,7 +41,7 @@ never_refused why same = let is : stops.Refused why ≡ stops.WriteFault = ap st
 pub stop_again : (X Y : Type 0) (one other : Stop) → IsErrOf {T = X} (Err one) other → IsErrOf {T = Y} (Err one) other
 stop_again X Y one other same = let is : one ≡ other = ap stop_in same in ap (λ (s : Stop). Err s) is
 
-served_again : (X Y : Type 0) (stop : Stop) → IsNoRefusal {X = X} (Err stop) → IsNoRefusal {X = Y} (Err stop)
+pub served_again : (X Y : Type 0) (stop : Stop) → IsNoRefusal {X = X} (Err stop) → IsNoRefusal {X = Y} (Err stop)
 served_again X Y stops.NoMemory served = tt
 served_again X Y stops.WriteFault served = tt
 served_again X Y (stops.Refused why) served = served

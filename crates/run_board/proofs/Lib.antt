@@ -5,6 +5,7 @@ pub mod Apart
 pub mod Calls
 pub mod Calm
 pub mod Ended
+pub mod Endings
 pub mod Known
 pub mod Layers
 pub mod Leaves
@@ -27,5 +28,6 @@ pub mod Under
 pub mod Weather
 pub mod Whole
 pub mod WholeLines
+pub mod Writes
 pub mod Writing
 pub mod Zeros

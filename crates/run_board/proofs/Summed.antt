@@ -1,12 +1,13 @@
 -- How a run ends whose replies were summed up.
 use Rattle.app_api.specs.Behaviours.{Behaviour}
-use Rattle.std.proofs.Common.{◌≡◌, ◌⊎◌, ℕ, Bool, false, List, [], ◌++◌, Option, Some, inl, inr, length, refl, sym, ap, subst, ◌∙◌, ⊎_elim, append-nil, arith}
-use Rattle.std.specs.Prelude.{IsTrue, codes}
+use Rattle.std.proofs.Common.{◌≡◌, ◌⊎◌, ◌∙◌, ℕ, false, List, [], Option, Some, ⊎_elim, ap, inl, inr, length, refl, subst, sym}
+use Rattle.std.specs.Prelude.{codes}
 use Rattle.std.specs.List.{AllByRecursion}
+use Rattle.app_api.specs.Hosts.{HostsFit}
 use Rattle.app_api.specs.declared.host.Host.{Host}
 use Rattle.board.specs.Moment.{View}
+use Rattle.board.specs.declared.Board.{Ghosts as BoardGhosts}
 use Rattle.epoch.specs.Forms.{Form}
-use Rattle.epoch.specs.declared.answer.OpenAnswer.{OpenAnswer}
 use Rattle.mac_digest.specs.Hash.{digest_of}
 use Rattle.mac_digest.specs.declared.digests.Hash.TheVariants.{Sha256}
 use Rattle.report.specs.Texts.{summary_text}
@@ -15,100 +16,32 @@ use Rattle.script.specs.Grammar.{names_of}
 use Rattle.script.specs.declared.line.Line.{Line}
 use Rattle.store_api.specs.Stores.{Store}
 use Rattle.summary.specs.Codes.{IsTally, codes_in}
-use Rattle.summary.specs.Summaries.{IsSummary}
+use Rattle.summary.specs.Summaries.{IsCutAt, IsCutBy, IsSummary}
+use Rattle.summary.specs.declared.cut.Cut.{Cut}
+use Rattle.summary.specs.declared.cut.Cut.TheVariants as cuts
 use Rattle.tee_base.specs.Faults.{Rose}
+use Rattle.tee_base.specs.declared.io.Sink.{Ghosts as SinkGhosts}
 use Rattle.tee_core.specs.World.{World, world_of}
 use Rattle.run_board.specs.BoardLines.{begins_with, weather_in, whole_lines, whole_text}
-use Rattle.run_board.specs.Boards.{BeginsWith, FailsAtFirst, FailsAtPower, HasFirstOrders, HasPower, IsRefusedAt, IsRefusedByRule, LeavesStores, orders_of}
-use Rattle.run_board.specs.Generated.{IsBroken, IsSummaryOf, IsUnsummed, LeavesSome, RunsGenerated, WritesAs, calm, calm_end, calm_text}
+use Rattle.run_board.specs.Boards.{BeginsWith, HasFirstOrders, HasOpened, HasOrders, LeavesStores, WritesLosses, orders_of}
+use Rattle.run_board.specs.Endings.{EndsAs, OnSound, RunEnds, RunsAs}
+use Rattle.run_board.specs.Generated.{IsSummaryOf, RunsGenerated, SumsAs, SumsEndAs, SumsFront, WritesAs, calm, calm_end, calm_text}
 use Rattle.run_board.specs.Isolation.{HasNoLine}
-use Rattle.run_board.specs.Runs.{IsServed, IsStopped, RunsFront, RunsToPower, RunsWhole, events_by}
+use Rattle.run_board.specs.Reading.{IsOfLines, IsUnopened}
+use Rattle.run_board.specs.Runs.{RunsFront, RunsWhole}
 use Rattle.run_board.specs.Transcript.{Weather, after_events, events_of, transcript}
 use Rattle.run_board.specs.declared.status.Status.{Status}
 use Rattle.run_board.specs.declared.status.Status.TheVariants.{Done, BadWords, BadLine, TooLong, StoreRefused, LogFull, NoMemory, ReadFault, WriteFault, BoardFault}
 use Rattle.run_board.proofs.Calm.{calm_weather, no_power, none_made}
-use Rattle.run_board.proofs.Ended.{served_told}
+use Rattle.run_board.proofs.Opened.{begin_leaves}
+use Rattle.run_board.proofs.Parts.{no_orders}
 use Rattle.run_board.proofs.Powers.{fails_rose}
+use Rattle.run_board.proofs.Whole.{nothing_written, whole_front}
 use Rattle.run_board.proofs.WholeLines.{whole_lines_are}
 
--- ---- kinds of status
-
-written_served : (status : Status) (text : List ℕ) (before after : Option (List ℕ)) (Same : Type 0) → WritesAs status text before after Same → IsServed status
-written_served Done text before after Same h = tt
-written_served BadWords text before after Same h = h
-written_served (BadLine n) text before after Same h = h
-written_served TooLong text before after Same h = h
-written_served (StoreRefused why) text before after Same h = tt
-written_served (LogFull app) text before after Same h = h
-written_served NoMemory text before after Same h = tt
-written_served ReadFault text before after Same h = h
-written_served WriteFault text before after Same h = tt
-written_served BoardFault text before after Same h = tt
-
-unsummed_same : (status : Status) (text : List ℕ) (before after : Option (List ℕ)) (Same : Type 0) → WritesAs status text before after Same → IsUnsummed status → Same
-unsummed_same Done text before after Same h is = absurd is
-unsummed_same BadWords text before after Same h is = absurd h
-unsummed_same (BadLine n) text before after Same h is = absurd h
-unsummed_same TooLong text before after Same h is = absurd h
-unsummed_same (StoreRefused why) text before after Same h is = absurd h
-unsummed_same (LogFull app) text before after Same h is = absurd h
-unsummed_same NoMemory text before after Same h is = h
-unsummed_same ReadFault text before after Same h is = absurd h
-unsummed_same WriteFault text before after Same h is = absurd is
-unsummed_same BoardFault text before after Same h is = absurd h
-
-broken_served : (status : Status) → IsBroken status → IsServed status
-broken_served Done h = tt
-broken_served BadWords h = h
-broken_served (BadLine n) h = h
-broken_served TooLong h = h
-broken_served (StoreRefused why) h = tt
-broken_served (LogFull app) h = h
-broken_served NoMemory h = tt
-broken_served ReadFault h = h
-broken_served WriteFault h = tt
-broken_served BoardFault h = tt
-
--- lines that weren't all run stopped, or their board failed
-broken_ways : (status : Status) → IsBroken status → IsStopped status ⊎ (status ≡ BoardFault)
-broken_ways Done h = absurd h
-broken_ways BadWords h = absurd h
-broken_ways (BadLine n) h = absurd h
-broken_ways TooLong h = absurd h
-broken_ways (StoreRefused why) h = absurd h
-broken_ways (LogFull app) h = absurd h
-broken_ways NoMemory h = inl tt
-broken_ways ReadFault h = absurd h
-broken_ways WriteFault h = absurd h
-broken_ways BoardFault h = inr refl
-
-module _ {A : Type 0} (behaviour : Behaviour A) (form : Form) (hosts : List (Host A)) (seed : List ℕ) (script : List Line) where
+module _ {A : Type 0} (behaviour : Behaviour A) (form : Form) (hosts : List (Host A)) (fit : HostsFit hosts) (seed : List ℕ) (script : List Line) where
   abbrev begin : (ℕ → Store) → World A
   begin stores = world_of hosts seed stores
-
-  -- what was run leaves the stores behind the first events
-  front_some : (stores : ℕ → Store) (new : View) (before after : Option (List ℕ)) → RunsFront behaviour form hosts seed stores script new before after
-      → LeavesSome behaviour form hosts seed stores script new
-  front_some stores new before after front = record {
-    weather = weather_in (names_of hosts) (whole_text front.text ++ front.further);
-    made = front.made;
-    behind = front.behind;
-    first = front.first;
-    left = front.left;
-  }
-
-  whole_some : (stores : ℕ → Store) (old new : View) (before after : Option (List ℕ)) → RunsWhole behaviour form hosts seed stores script old new before after
-      → LeavesSome behaviour form hosts seed stores script new
-  whole_some stores old new before after whole = record {
-    weather = weather_in (names_of hosts) whole.text;
-    made = events_by behaviour form hosts seed stores script whole.text;
-    behind = [];
-    first = sym (append-nil (events_by behaviour form hosts seed stores script whole.text));
-    left = whole.left;
-  }
-
-  pub begin_some : (stores : ℕ → Store) (new : View) → LeavesStores form new (begin stores) → LeavesSome behaviour form hosts seed stores script new
-  begin_some stores new left = record { weather = calm; made = []; behind = events_of behaviour calm (begin stores) script; first = refl; left = left }
 
   -- ---- all lines were run
 
@@ -136,97 +69,202 @@ module _ {A : Type 0} (behaviour : Behaviour A) (form : Form) (hosts : List (Hos
     end_is : LeavesStores form new (calm_end behaviour form hosts seed stores script)
     end_is = subst (λ (w : Weather). LeavesStores form new (after_events behaviour (begin stores) (events_of behaviour w (begin stores) script))) weather_is whole.left
 
-  -- ---- the three ways in which a run ends that was begun
+  -- nothing was to be summed up, or all was
+  none_front : (stores : ℕ → Store) (new : View) → LeavesStores form new (begin stores) → SumsFront behaviour form hosts seed stores script new
+  none_front stores new left = record {
+    replies = [];
+    lines = [];
+    line = [];
+    has = record { all = refl; each = tt; last = tt; own = tt };
+    front = nothing_written behaviour form hosts fit seed stores script new (Some []) left;
+  }
 
-  module _ (none : orders_of script ≡ []) (Same Honest : Type 0) (tells : Bool) (old new : View) (before after : Option (List ℕ)) (failed fails : ℕ) (first : HasFirstOrders script old new) where
-    pub summed_ends : (status : Status) (text hash : List ℕ) (counts : List (ℕ × ℕ)) → IsSummary text hash counts
-        → (Honest → (stores : ℕ → Store) → BeginsWith form old (length hosts) stores → RunsWhole behaviour form hosts seed stores script old new (Some []) (Some text))
-        → WritesAs status (summary_text (length script) (digest_of Sha256 (canonical hosts script)) hash counts) before after Same
-        → (status ≡ WriteFault → Rose failed fails)
-        → RunsGenerated behaviour form hosts seed script status Same Honest tells old new before after failed fails
-    summed_ends status text hash counts summary whole writes fault =
-        let here : List ℕ = summary_text (length script) (digest_of Sha256 (canonical hosts script)) hash counts in
-        record {
-          done = λ is honest stores begins. record {
-            text = here;
-            summary = summary_is stores old new text hash counts summary (whole honest stores begins);
-            appended = subst (λ s. WritesAs s here before after Same) is writes;
-            left = end_is stores old new text hash counts summary (whole honest stores begins);
-          };
-          cut_short = λ is honest stores begins. record {
-            text = here;
-            summary = summary_is stores old new text hash counts summary (whole honest stores begins);
-            front = subst (λ s. WritesAs s here before after Same) is writes;
-            left = end_is stores old new text hash counts summary (whole honest stores begins);
-          };
-          broken = λ is honest stores begins. whole_some stores old new (Some []) (Some text) (whole honest stores begins);
-          unwritten = λ is. unsummed_same status here before after Same writes is;
-          orders = none_made script old new none first;
-          cause = λ is. absurd (subst (λ s. WritesAs s here before after Same) is writes);
-          refused = λ why is. absurd (subst (λ s. WritesAs s here before after Same) is writes);
-          rule = λ why is. absurd (subst (λ s. WritesAs s here before after Same) is writes);
-          complete = λ honest stores begins wrote board. served_told status (written_served status here before after Same writes) (λ is. wrote (fault is))
-              (λ is. absurd (subst (λ s. WritesAs s here before after Same) is writes)) (λ why is. absurd (subst (λ s. WritesAs s here before after Same) is writes));
-        }
+  all_front : (stores : ℕ → Store) (old new : View) (text hash : List ℕ) (counts : List (ℕ × ℕ)) → IsSummary text hash counts
+      → (run : RunsWhole behaviour form hosts seed stores script old new (Some []) (Some text)) → whole_text run.text ≡ run.text → SumsFront behaviour form hosts seed stores script new
+  all_front stores old new text hash counts summary run whole = record {
+    replies = text;
+    lines = summary.lines;
+    line = summary.rest;
+    has = summary.has;
+    front = whole_front behaviour form hosts fit seed stores script old new (Some []) (Some text) run whole;
+  }
 
-    pub cut_ends : (status : Status) (text : List ℕ) → IsBroken status
-        → (Honest → (stores : ℕ → Store) → BeginsWith form old (length hosts) stores → RunsFront behaviour form hosts seed stores script new (Some []) (Some text))
-        → Same → (status ≡ BoardFault → Rose old.state.faults new.state.faults)
-        → RunsGenerated behaviour form hosts seed script status Same Honest tells old new before after failed fails
-    cut_ends status text broken front same cause = record {
-      done = λ is. absurd (subst IsBroken is broken);
-      cut_short = λ is. absurd (subst IsBroken is broken);
-      broken = λ is honest stores begins. front_some stores new (Some []) (Some text) (front honest stores begins);
-      unwritten = λ is. same;
-      orders = none_made script old new none first;
-      cause = cause;
-      refused = λ why is. absurd (subst IsBroken is broken);
-      rule = λ why is. absurd (subst IsBroken is broken);
-      complete = λ honest stores begins wrote board. served_told status (broken_served status broken) (λ is. absurd (subst IsBroken is broken)) (λ is. board (cause is))
-          (λ why is. absurd (subst IsBroken is broken));
+  -- ---- rows of a run for its summary
+
+  module _ {B W : Type 0} (G : BoardGhosts B) (K : SinkGhosts W) (board left : B) (out told : W) where
+    abbrev Says : Status → Type 0
+    Says = SumsEndAs G K behaviour form hosts seed script board left out told
+
+    abbrev Sound : (ℕ → Store) → Status → Type 0
+    Sound = SumsAs G K behaviour form hosts seed script board left out told
+
+    sums_complete : (stores : ℕ → Store) (status : Status) → Says status → Sound stores status → ¬ Rose (K.failures out) (K.failures told)
+        → ¬ Rose (G.view board).state.faults (G.view left).state.faults → (status ≡ Done) ⊎ (status ≡ NoMemory)
+    sums_complete stores Done says sound wrote steady = inl refl
+    sums_complete stores NoMemory says sound wrote steady = inr refl
+    sums_complete stores WriteFault says sound wrote steady = absurd (wrote says)
+    sums_complete stores BoardFault says sound wrote steady = absurd (steady says.1)
+    sums_complete stores (StoreRefused why) says sound wrote steady = absurd sound
+    sums_complete stores (LogFull app) says sound wrote steady = absurd says
+    sums_complete stores BadWords says sound wrote steady = absurd says
+    sums_complete stores (BadLine n) says sound wrote steady = absurd says
+    sums_complete stores TooLong says sound wrote steady = absurd says
+    sums_complete stores ReadFault says sound wrote steady = absurd says
+
+    sums : (status : Status) → Says status → OnSound G form (length hosts) board (λ stores. Sound stores status) → HasOrders [] (G.view board) (G.view left)
+        → (G.honest board → ((told ≡ out) × IsUnopened status) ⊎ HasOpened form (G.view board)) → RunsGenerated G K behaviour form hosts seed script board left out told status
+    sums status says sound orders opened = record {
+      says = says;
+      sound = sound;
+      orders = orders;
+      opened = opened;
+      complete = λ wrote steady honest stores begins. sums_complete stores status says (sound honest stores begins) wrote steady;
     }
 
-    -- S is that nothing was summed up
-    pub other_ends : (status : Status) (text : List ℕ) (S : Type 0) → IsServed status → (status ≡ Done → ⊥) → (status ≡ WriteFault → ⊥) → Same
-        → (IsStopped status → Honest → (stores : ℕ → Store) → BeginsWith form old (length hosts) stores → RunsFront behaviour form hosts seed stores script new (Some []) (Some text))
-        → (status ≡ BoardFault → Honest → (stores : ℕ → Store) → BeginsWith form old (length hosts) stores
-        → (S × LeavesStores form new (begin stores)) ⊎ RunsToPower behaviour form hosts seed stores script old new (Some []) (Some text))
-        → (status ≡ BoardFault → (S × FailsAtFirst old new) ⊎ FailsAtPower script old new)
-        → ((why : OpenAnswer) → status ≡ StoreRefused why → Honest → (stores : ℕ → Store) → BeginsWith form old (length hosts) stores → ⊥)
-        → ((why : OpenAnswer) → status ≡ StoreRefused why → Honest → (S × IsRefusedByRule form old why) ⊎ HasPower script)
-        → ((why : OpenAnswer) → status ≡ StoreRefused why → IsTrue tells → (S × (counter : ℕ) × IsRefusedAt form old new.state.reads counter why) ⊎ HasPower script)
-        → RunsGenerated behaviour form hosts seed script status Same Honest tells old new before after failed fails
-    other_ends status text S served undone uncut same stopped board_fault cause accepted refused rule =
-        let rose : status ≡ BoardFault → Rose old.state.faults new.state.faults = λ is. ⊎_elim (λ at_first. at_first.1.failed) (λ power. fails_rose _ _ _ power) (cause is) in
-        record {
-          done = λ is. absurd (undone is);
-          cut_short = λ is. absurd (uncut is);
-          broken = λ is honest stores begins.
-              ⊎_elim (λ stop. front_some stores new (Some []) (Some text) (stopped stop honest stores begins))
-              (λ fault. ⊎_elim (λ at_first. begin_some stores new at_first.1)
-              (λ to_power. absurd (no_power script none (to_power.front, to_power.pick, to_power.rest, to_power.split)))
-              (board_fault fault honest stores begins))
-              (broken_ways status is);
-          unwritten = λ is. same;
-          orders = none_made script old new none first;
-          cause = rose;
-          refused = λ why is honest. ⊎_elim (λ at_first. at_first.1) (λ power. absurd (no_power script none power)) (refused why is honest);
-          rule = λ why is told. ⊎_elim (λ at_first. (at_first.1, at_first.2)) (λ power. absurd (no_power script none power)) (rule why is told);
-          complete = λ honest stores begins wrote board. served_told status served (λ is. absurd (uncut is)) (λ is. board (rose is)) (λ why is. accepted why is honest stores begins);
-        }
+    -- its text was to be written
+    says_written : (here : List ℕ) (status : Status) → WritesAs K here out told status → Says status
+    says_written here Done writes = tt
+    says_written here WriteFault writes = writes.1
+    says_written here NoMemory writes = writes
+    says_written here (StoreRefused why) writes = absurd writes
+    says_written here (LogFull app) writes = writes
+    says_written here BoardFault writes = absurd writes
+    says_written here BadWords writes = writes
+    says_written here (BadLine n) writes = writes
+    says_written here TooLong writes = writes
+    says_written here ReadFault writes = writes
+
+    sound_written : (stores : ℕ → Store) (here : List ℕ) → IsSummaryOf behaviour form hosts seed stores script here
+        → LeavesStores form (G.view left) (calm_end behaviour form hosts seed stores script) → SumsFront behaviour form hosts seed stores script (G.view left)
+        → (status : Status) → WritesAs K here out told status → Sound stores status
+    sound_written stores here summary end front Done writes = record { text = here; summary = summary; appended = writes; left = end }
+    sound_written stores here summary end front WriteFault writes = record { text = here; summary = summary; front = writes.0; left = end }
+    sound_written stores here summary end front NoMemory writes = front
+    sound_written stores here summary end front (StoreRefused why) writes = writes
+    sound_written stores here summary end front (LogFull app) writes = writes
+    sound_written stores here summary end front BoardFault writes = absurd writes
+    sound_written stores here summary end front BadWords writes = writes
+    sound_written stores here summary end front (BadLine n) writes = writes
+    sound_written stores here summary end front TooLong writes = writes
+    sound_written stores here summary end front ReadFault writes = writes
+
+  -- ---- the ways in which a run ends
 
   -- the lines weren't even made
-  pub unmade_ends : (Same Honest : Type 0) (tells : Bool) (old : View) (written : Option (List ℕ)) (failed : ℕ) → Same
-      → (Honest → (stores : ℕ → Store) → BeginsWith form old (length hosts) stores → LeavesStores form old (begin stores))
-      → RunsGenerated behaviour form hosts seed script NoMemory Same Honest tells old old written written failed failed
-  unmade_ends Same Honest tells old written failed same leaves = record {
-    done = λ is. absurd (subst IsBroken is tt);
-    cut_short = λ is. absurd (subst IsBroken is tt);
-    broken = λ is honest stores begins. begin_some stores old (leaves honest stores begins);
-    unwritten = λ is. same;
-    orders = record { size = refl; key = refl; orders = refl; made = []; numbered = refl; ordered = refl; later = omega arith };
-    cause = λ is. absurd (subst IsStopped is tt);
-    refused = λ why is. absurd (subst IsBroken is tt);
-    rule = λ why is. absurd (subst IsBroken is tt);
-    complete = λ honest stores begins wrote board. inr refl;
-  }
+  pub unmade_ends : {B W : Type 0} (G : BoardGhosts B) (K : SinkGhosts W) (board : B) (out : W) → RunsGenerated G K behaviour form hosts seed script board board out out NoMemory
+  unmade_ends G K board out =
+      sums G K board board out out NoMemory refl (λ honest stores begins. none_front stores (G.view board) (begin_leaves form hosts seed stores (G.view board) begins))
+      (no_orders (G.view board)) (λ honest. inl (refl, tt))
+
+  module _ {B W T : Type 0} (none : orders_of script ≡ []) (G : BoardGhosts B) (K : SinkGhosts W) (board left : B) (out : W) (H : SinkGhosts T) (start end : T) where
+    abbrev Ends : Status → Type 0
+    Ends status = RunEnds G H form (λ So. So script) board left start end status
+
+    abbrev Runs : Status → Type 0
+    Runs status = OnSound G form (length hosts) board (λ stores. RunsAs G H behaviour form hosts seed (λ So. So script) board left start end stores status)
+
+    orderless : (left ≡ board) ⊎ HasFirstOrders script (G.view board) (G.view left) → HasOrders [] (G.view board) (G.view left)
+    orderless (inl same) = subst (λ (b : B). HasOrders [] (G.view board) (G.view b)) (sym same) (no_orders (G.view board))
+    orderless (inr first) = none_made script (G.view board) (G.view left) none first
+
+    -- the lines ended so, and the sink tells its text, which begins with none
+    module _ (state : Status) (ends : Ends state) (runs : Runs state) (text line : List ℕ) (from : H.written start ≡ Some []) (to : H.written end ≡ Some text) where
+      told_both : (P : Option (List ℕ) → Option (List ℕ) → Type 0) → P (H.written start) (H.written end) → P (Some []) (Some text)
+      told_both P p = subst (P (Some [])) to (subst (λ (w : Option (List ℕ)). P w (H.written end)) from p)
+
+      text_whole : (run : List ℕ) → text ≡ run → WritesLosses (Some []) (Some text) (G.view board) (G.view left) → whole_text run ≡ run
+      text_whole run is losses = subst (λ t. whole_text t ≡ t) (sym losses.appended ∙ is) losses.whole
+
+      -- all lines were run
+      pub summed_ends : state ≡ Done → (told : W) (status : Status) (hash : List ℕ) (counts : List (ℕ × ℕ)) → IsSummary text hash counts
+          → WritesAs K (summary_text (length script) (digest_of Sha256 (canonical hosts script)) hash counts) out told status
+          → RunsGenerated G K behaviour form hosts seed script board left out told status
+      summed_ends is told status hash counts summary writes =
+          let done : Ends Done = subst Ends is ends in
+          let here : List ℕ = summary_text (length script) (digest_of Sha256 (canonical hosts script)) hash counts in
+          let old : View = G.view board in
+          let new : View = G.view left in
+          let losses : WritesLosses (Some []) (Some text) old new = told_both (λ before after. WritesLosses before after old new) done.says.1 in
+          sums G K board left out told status (says_written G K board left out told here status writes)
+          (λ honest stores begins.
+          let run : RunsWhole behaviour form hosts seed stores script old new (Some []) (Some text) =
+          told_both (RunsWhole behaviour form hosts seed stores script old new) (subst Runs is runs honest stores begins) in
+          sound_written G K board left out told stores here (summary_is stores old new text hash counts summary run) (end_is stores old new text hash counts summary run)
+          (all_front stores old new text hash counts summary run (text_whole run.text run.appended losses)) status writes)
+          (orderless done.orders) (λ honest. ⊎_elim (λ unopened. absurd unopened.1) (λ has. inr has) (done.opened honest))
+
+      module _ (cut : Option Cut) (at : IsCutAt text line cut) where
+        abbrev to_front : (stores : ℕ → Store) → RunsFront behaviour form hosts seed stores script (G.view left) (H.written start) (H.written end)
+            → SumsFront behaviour form hosts seed stores script (G.view left)
+        to_front stores front = record {
+          replies = text;
+          lines = at.lines;
+          line = line;
+          has = at.has;
+          front = told_both (RunsFront behaviour form hosts seed stores script (G.view left)) front;
+        }
+
+        -- the replies were cut short
+        pub cut_ends : state ≡ WriteFault → (status : Status)
+            → (status ≡ BoardFault → (cut ≡ Some cuts.Lost) × Rose (G.view board).state.faults (G.view left).state.faults) → (status ≡ BoardFault) ⊎ (status ≡ NoMemory)
+            → RunsGenerated G K behaviour form hosts seed script board left out out status
+        cut_ends stopped status cause few =
+            let cut_short : Ends WriteFault = subst Ends stopped ends in
+            let ran : Runs WriteFault = subst Runs stopped runs in
+            let R : Status → Type 0 = λ s. RunsGenerated G K behaviour form hosts seed script board left out out s in
+            let opened : G.honest board → HasOpened form (G.view board) = λ honest. ⊎_elim (λ unopened. absurd unopened.1) (λ has. has) (cut_short.opened honest) in
+            ⊎_elim
+            (λ is. subst R (sym is)
+            (sums G K board left out out BoardFault (refl, (cause is).1)
+            (λ honest stores begins. inr (to_front stores (ran honest stores begins), subst (λ (k : Option Cut). IsCutBy k line) (cause is).0 at.by_line))
+            (orderless cut_short.orders) (λ honest. inr (opened honest))))
+            (λ is. subst R (sym is)
+            (sums G K board left out out NoMemory refl (λ honest stores begins. to_front stores (ran honest stores begins)) (orderless cut_short.orders) (λ honest. inr (opened honest))))
+            few
+
+        other_says : (status : Status) → IsOfLines status → (status ≡ Done → ⊥) → (status ≡ WriteFault → ⊥) → EndsAs G H form (λ So. So script) board left start end status
+            → SumsEndAs G K behaviour form hosts seed script board left out out status
+        other_says Done served undone uncut row = tt
+        other_says WriteFault served undone uncut row = absurd (uncut refl)
+        other_says NoMemory served undone uncut row = refl
+        other_says BoardFault served undone uncut row = (refl, ⊎_elim (λ first. first.1.failed) (λ power. fails_rose script _ _ power) row)
+        other_says (StoreRefused why) served undone uncut row = (
+          refl,
+          record {
+            answer = row.answer;
+            refusal = row.refusal;
+            refused = λ honest. ⊎_elim (λ first. inl (refl, first.1)) (λ power. absurd (no_power script none power)) (row.refused honest);
+            rule = λ tells. ⊎_elim (λ first. inl (refl, first.1, first.2)) (λ power. absurd (no_power script none power)) (row.rule tells);
+          },
+        )
+        other_says (LogFull app) served undone uncut row = row
+        other_says BadWords served undone uncut row = served
+        other_says (BadLine n) served undone uncut row = served
+        other_says TooLong served undone uncut row = served
+        other_says ReadFault served undone uncut row = served
+
+        other_sound : (stores : ℕ → Store) → BeginsWith form (G.view board) (length hosts) stores → (status : Status) → IsOfLines status → (status ≡ Done → ⊥) → (status ≡ WriteFault → ⊥)
+            → EndsAs G H form (λ So. So script) board left start end status → RunsAs G H behaviour form hosts seed (λ So. So script) board left start end stores status
+            → SumsAs G K behaviour form hosts seed script board left out out stores status
+        other_sound stores begins Done served undone uncut row run = absurd (undone refl)
+        other_sound stores begins WriteFault served undone uncut row run = absurd (uncut refl)
+        other_sound stores begins NoMemory served undone uncut row run =
+            ⊎_elim
+            (λ same. none_front stores (G.view left)
+            (subst (λ (b : B). LeavesStores form (G.view b) (world_of hosts seed stores)) (sym same.1) (begin_leaves form hosts seed stores (G.view board) begins)))
+            (λ front. to_front stores front) run
+        other_sound stores begins BoardFault served undone uncut row run =
+            ⊎_elim (λ first. inl first.1) (λ power. absurd (no_power script none (power.front, power.pick, power.rest, power.split))) run
+        other_sound stores begins (StoreRefused why) served undone uncut row run = run
+        other_sound stores begins (LogFull app) served undone uncut row run = row
+        other_sound stores begins BadWords served undone uncut row run = served
+        other_sound stores begins (BadLine n) served undone uncut row run = served
+        other_sound stores begins TooLong served undone uncut row run = served
+        other_sound stores begins ReadFault served undone uncut row run = served
+
+        -- they weren't all run, or the board wasn't opened
+        pub other_ends : IsOfLines state → (state ≡ Done → ⊥) → (state ≡ WriteFault → ⊥) → RunsGenerated G K behaviour form hosts seed script board left out out state
+        other_ends served undone uncut =
+            sums G K board left out out state (other_says state served undone uncut ends.says)
+            (λ honest stores begins. other_sound stores begins state served undone uncut ends.says (runs honest stores begins)) (orderless ends.orders)
+            (λ honest. ⊎_elim (λ unopened. inl (refl, unopened.1)) (λ has. inr has) (ends.opened honest))

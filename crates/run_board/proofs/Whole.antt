@@ -1,6 +1,6 @@
 -- The text of a run is the transcript in the weather that is read back from it.
 use Rattle.app_api.specs.Behaviours.{Behaviour}
-use Rattle.std.proofs.Common.{ℕ, ◌≡◌, ◌<◌, ◌∙◌, List, [], ◌∷◌, ◌++◌, Option, inl, length, refl, sym, subst, ap, arith}
+use Rattle.std.proofs.Common.{ℕ, ◌≡◌, ◌<◌, ◌∙◌, List, [], ◌∷◌, ◌++◌, Option, append-nil, inl, length, refl, sym, subst, ap, arith}
 use Rattle.std.specs.Io.KnownBytes.{Appends}
 use Rattle.std.proofs.KnownBytes.{Appends-nil}
 use Rattle.std.proofs.lemmas.List.{length-map}
@@ -13,7 +13,7 @@ use Rattle.epoch.specs.Forms.{Form}
 use Rattle.script.specs.declared.line.Line.{Line}
 use Rattle.script.specs.Grammar.{names_of}
 use Rattle.tee_core.specs.World.{World, world_of}
-use Rattle.run_board.specs.BoardLines.{weather_in, whole_text}
+use Rattle.run_board.specs.BoardLines.{IsBoardLineOrNone, weather_in, whole_text}
 use Rattle.run_board.specs.Boards.{GoesAlong, LeavesStores, RunsAlong}
 use Rattle.run_board.specs.Logs.{Item, SameWeather, log_weather}
 use Rattle.run_board.specs.Parts.{AreTold, HasNoDamage, IsRefusedIn, IsRunOf, Point, StopsIn, log_of}
@@ -110,13 +110,42 @@ module _ {A : Type 0} (behaviour : Behaviour A) (form : Form) (hosts : List (Hos
         left = subst (λ es. LeavesStores form new.view (after_events behaviour begin es)) is refused.run.stands;
       }
 
+  no_line : IsBoardLineOrNone names []
+  no_line = inl (record { app = 0; known = some_name; kind = Plain; turn = 0; here = refl })
+
+  -- all lines were run, and so their events are the first
+  pub whole_front : (script : List Line) (old new : View) (before after : Option (List ℕ)) (run : RunsWhole behaviour form hosts seed stores script old new before after)
+      → whole_text run.text ≡ run.text → RunsFront behaviour form hosts seed stores script new before after
+  whole_front script old new before after run whole =
+      let made : List WorldEvent = events_by behaviour form hosts seed stores script run.text in
+      record {
+        text = run.text;
+        appended = run.appended;
+        further = [];
+        one = no_line;
+        made = made;
+        behind = [];
+        first = ap (λ text. events_by behaviour form hosts seed stores script text) (append-nil (whole_text run.text) ∙ whole) ∙ sym (append-nil made);
+        cut = record {
+          done = made;
+          last = [];
+          few = omega arith;
+          all = sym (append-nil made);
+          cut = [];
+          rest = [];
+          piece = refl;
+          here = run.all ∙ sym (append-nil (text_of behaviour names begin made));
+        };
+        left = run.left;
+      }
+
   -- no line was run
   pub nothing_written : (script : List Line) (new : View) (written : Option (List ℕ)) → LeavesStores form new begin → RunsFront behaviour form hosts seed stores script new written written
   nothing_written script new written left = record {
     text = [];
     appended = Appends-nil written;
     further = [];
-    one = inl (record { app = 0; known = some_name; kind = Plain; turn = 0; here = refl });
+    one = no_line;
     made = [];
     behind = events_by behaviour form hosts seed stores script (whole_text [] ++ []);
     first = refl;

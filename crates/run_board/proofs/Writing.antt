@@ -1,5 +1,5 @@
 -- Texts of which a front was appended.
-use Rattle.std.proofs.Common.{◌≡◌, ◌<◌, ◌+◌, ◌++◌, ℕ, suc, List, [], ◌∷◌, Option, length, drop, drop-cons, get_or, add-one, refl, sym, ◌∙◌, ap, subst, append_assoc, append-nil}
+use Rattle.std.proofs.Common.{◌≡◌, ◌<◌, ◌≤◌, ◌+◌, ◌++◌, ℕ, suc, List, [], ◌∷◌, Option, length, drop, drop-cons, drop_of_length-le, get_or, add-one, refl, sym, ◌∙◌, ap, subst, append_assoc, append-nil}
 use Rattle.std.specs.Io.KnownBytes.{Appends}
 use Rattle.std.proofs.KnownBytes.{Appends-nil, Appends-trans}
 use Rattle.tee_base.specs.Transfer.{AppendsFront}
@@ -58,3 +58,12 @@ module _ {X : Type 0} (piece_of : X → List ℕ) where
       subst (λ zs. AppendsFront zs a c)
       (ap (λ zs. old.0 ++ (zs ++ rest)) line ∙ ap (λ zs. old.0 ++ zs) (sym (pieces_split xs i x within here)) ∙ old.1)
       (front_after old.0 (piece ++ rest) a b c old.2 (front_longer piece rest b c new))
+
+  -- the first pieces were appended, and then no more
+  pub pieces_stopped : (xs : List X) (i : ℕ) (a b : Option (List ℕ)) → WrittenTo xs i a b → AppendsFront (flat_map piece_of xs) a b
+  pieces_stopped xs i a b so = (so.0, flat_map piece_of (drop i xs), sym so.1, so.2)
+
+  -- all were
+  pub pieces_ended : (xs : List X) (i : ℕ) (a b : Option (List ℕ)) → length xs ≤ i → WrittenTo xs i a b → Appends a b (flat_map piece_of xs)
+  pieces_ended xs i a b all so =
+      subst (Appends a b) (sym (append-nil so.0) ∙ ap (λ (ys : List X). so.0 ++ flat_map piece_of ys) (sym (drop_of_length-le xs all)) ∙ so.1) so.2

@@ -1,6 +1,6 @@
 -- The board along a run: its counts between two orders, and what a crash may leave of it.
 use Rattle.app_api.specs.Behaviours.{Behaviour}
-use Rattle.std.specs.Prelude.{ℕ, ◌≡◌, ◌≤◌, ◌+◌, ◌-◌, ◌%◌, ◌^◌, ◌⊎◌, List, [], ◌∷◌, ◌++◌, Option, Err, map}
+use Rattle.std.specs.Prelude.{ℕ, ◌≡◌, ◌≤◌, ◌+◌, ◌-◌, ◌%◌, ◌^◌, ◌⊎◌, ⊤, List, [], ◌∷◌, ◌++◌, Option, Err, map}
 use Rattle.std.specs.Io.KnownBytes.{Appends}
 use Rattle.alone.specs.Step.{Event, Called, Cancelled, Turned, TurnLost, Corrupted, Lost, Starved, Restarted}
 use Rattle.board.specs.Moment.{Moment, Order, View, IsCounter}
@@ -116,7 +116,7 @@ pub record WritesLosses (before after : Option (List ℕ)) (old new : View) : Ty
   pub later : old.state.faults ≤ new.state.faults
   pub faults : RoseBy (lost_lines text) old.state.faults new.state.faults
 
--- the first opening failed: no order was made, and a call failed
+-- as where the first opening failed: no order was made, and a call of the board failed
 pub record FailsAtFirst (old new : View) : Type 0 where
   pub orders : HasOrders [] old new
   pub failed : Rose old.state.faults new.state.faults
@@ -145,16 +145,9 @@ pub record FailsAtPower (script : List Line) (old new : View) : Type 0 where
 
 -- the answers by which the opening rule refuses a board; a failed call and want of memory are none
 abbrev pub IsRuleAnswer : OpenAnswer → Type 0
-IsRuleAnswer (answers.TooSmall blocks) = Unit {0}
-IsRuleAnswer (answers.NoVolume counter) = Unit {0}
-IsRuleAnswer (answers.BadHeader slot found kept) = Unit {0}
-IsRuleAnswer (answers.UnknownVersion version) = Unit {0}
-IsRuleAnswer (answers.Rollback sequence counter) = Unit {0}
-IsRuleAnswer (answers.Ahead sequence counter) = Unit {0}
-IsRuleAnswer (answers.OldMismatch tags) = Unit {0}
-IsRuleAnswer (answers.OldGarbled region leaf) = Unit {0}
 IsRuleAnswer answers.Failed = ⊥
 IsRuleAnswer answers.NoMemory = ⊥
+IsRuleAnswer why = ⊤
 
 -- the opening rule refuses a board, at this counter, and this is the rule's answer. Which header counts is by what the board reads as,
 -- and what is refused of the leaves behind it by what it read as when they were walked

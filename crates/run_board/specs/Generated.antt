@@ -1,13 +1,13 @@
 -- A generated workload: the words that ask for it, its run in weather without marks, and the summary of that.
 use Rattle.app_api.specs.Behaviours.{Behaviour}
-use Rattle.std.specs.Prelude.{ℕ, ◌≡◌, ◌<◌, ◌^◌, ◌++◌, ◌⊎◌, Bool, IsTrue, false, List, [], ◌∷◌, Option, codes, length, map, String, string_bytes}
+use Rattle.std.specs.Prelude.{ℕ, ◌≡◌, ◌<◌, ◌^◌, ◌⊎◌, ⊤, true, false, List, [], ◌∷◌, Option, Some, codes, length, map, String, string_bytes}
 use Rattle.std.specs.Global.{Global}
 use Rattle.std.specs.Io.KnownBytes.{Appends}
 use Rattle.app_api.specs.declared.host.Host.{Host}
 use Rattle.alone.specs.Marks.{no_marks}
 use Rattle.board.specs.Moment.{View}
+use Rattle.board.specs.declared.Board.{Ghosts as BoardGhosts}
 use Rattle.epoch.specs.Forms.{Form}
-use Rattle.epoch.specs.declared.answer.OpenAnswer.{OpenAnswer}
 use Rattle.mac_digest.specs.Hash.{digest_of}
 use Rattle.mac_digest.specs.declared.digests.Hash.TheVariants.{Sha256}
 use Rattle.report.specs.Texts.{summary_text}
@@ -16,16 +16,20 @@ use Rattle.script.specs.Words.{IsNumber}
 use Rattle.script.specs.declared.line.Line.{Line}
 use Rattle.store_api.specs.Stores.{Store}
 use Rattle.summary.specs.Codes.{IsTally, codes_in}
+use Rattle.summary.specs.Summaries.{HasLines}
 use Rattle.tee_base.specs.Faults.{Rose}
 use Rattle.tee_base.specs.Transfer.{AppendsFront}
+use Rattle.tee_base.specs.Words.{Text}
+use Rattle.tee_base.specs.declared.io.Sink.{Ghosts as SinkGhosts}
 use Rattle.tee_core.specs.World.{World, world_of}
-use Rattle.run_board.specs.BoardLines.{whole_lines}
-use Rattle.run_board.specs.Boards.{BeginsWith, HasOrders, IsRefusedAt, IsRefusedByRule, LeavesStores}
-use Rattle.run_board.specs.Runs.{AreRunWords}
-use Rattle.run_board.specs.Transcript.{Weather, WorldEvent, after_events, events_of, transcript}
+use Rattle.run_board.specs.BoardLines.{begins_with, whole_lines}
+use Rattle.run_board.specs.Boards.{HasOpened, HasOrders, LeavesStores}
+use Rattle.run_board.specs.Endings.{IsRefusedAs, OnSound}
+use Rattle.run_board.specs.Reading.{IsUnopened}
+use Rattle.run_board.specs.Runs.{AreRunWords, RunsFront}
+use Rattle.run_board.specs.Transcript.{Weather, after_events, events_of, transcript}
 use Rattle.run_board.specs.declared.status.Status.{Status}
-use Rattle.run_board.specs.declared.status.Status.TheVariants.{Done, BadWords, BadLine, TooLong, StoreRefused, LogFull, NoMemory, ReadFault, WriteFault, BoardFault}
-use Rattle.tee_base.specs.Words.{Counter, Text}
+use Rattle.run_board.specs.declared.status.Status.TheVariants.{Done, StoreRefused, NoMemory, WriteFault, BoardFault}
 
 -- the words that ask for the workload of a number, which is written as a script has numbers
 abbrev pub AreGenWords : List (String Global) → ℕ → Type 0
@@ -40,44 +44,13 @@ AreCommandWords words = AreRunWords words ⊎ ((number : ℕ) × AreGenWords wor
 abbrev pub calm : Weather
 calm = record { marks = λ app. no_marks; kept = λ power app. false }
 
--- a status under which no summary is written, nor a front of one
-abbrev pub IsUnsummed : Status → Type 0
-IsUnsummed Done = ⊥
-IsUnsummed BadWords = Unit {0}
-IsUnsummed (BadLine n) = Unit {0}
-IsUnsummed TooLong = Unit {0}
-IsUnsummed (StoreRefused why) = Unit {0}
-IsUnsummed (LogFull app) = Unit {0}
-IsUnsummed NoMemory = Unit {0}
-IsUnsummed ReadFault = Unit {0}
-IsUnsummed WriteFault = ⊥
-IsUnsummed BoardFault = Unit {0}
-
--- a status of lines that weren't all run
-abbrev pub IsBroken : Status → Type 0
-IsBroken Done = ⊥
-IsBroken BadWords = ⊥
-IsBroken (BadLine n) = ⊥
-IsBroken TooLong = ⊥
-IsBroken (StoreRefused why) = ⊥
-IsBroken (LogFull app) = ⊥
-IsBroken NoMemory = Unit {0}
-IsBroken ReadFault = ⊥
-IsBroken WriteFault = ⊥
-IsBroken BoardFault = Unit {0}
-
--- a text was written, or a front of it where a write failed, or nothing where there was no memory for it
-abbrev pub WritesAs : Status → Text → Option (List ℕ) → Option (List ℕ) → Type 0 → Type 0
-WritesAs Done text before after Same = Appends before after text
-WritesAs BadWords text before after Same = ⊥
-WritesAs (BadLine n) text before after Same = ⊥
-WritesAs TooLong text before after Same = ⊥
-WritesAs (StoreRefused why) text before after Same = ⊥
-WritesAs (LogFull app) text before after Same = ⊥
-WritesAs NoMemory text before after Same = Same
-WritesAs ReadFault text before after Same = ⊥
-WritesAs WriteFault text before after Same = AppendsFront text before after
-WritesAs BoardFault text before after Same = ⊥
+-- a text was to be written to a sink, and what a status says of that: it was, or a front of it, and a write failed; or there was no memory,
+-- and nothing was
+abbrev pub WritesAs : {W : Type 0} → SinkGhosts W → Text → W → W → Status → Type 0
+WritesAs H text sink written Done = Appends (H.written sink) (H.written written) text
+WritesAs H text sink written WriteFault = AppendsFront text (H.written sink) (H.written written) × Rose (H.failures sink) (H.failures written)
+WritesAs H text sink written NoMemory = written ≡ sink
+WritesAs H text sink written status = ⊥
 
 -- these hosts run this script from a board with these stores
 module _ {A : Type 0} (behaviour : Behaviour A) (form : Form) (hosts : List (Host A)) (seed : List ℕ) (stores : ℕ → Store) (script : List Line) where
@@ -85,7 +58,7 @@ module _ {A : Type 0} (behaviour : Behaviour A) (form : Form) (hosts : List (Hos
   abbrev pub calm_text : List ℕ
   calm_text = transcript behaviour calm hosts seed stores script
 
-  -- the world behind the script in that weather
+  -- the world after the script in that weather
   abbrev pub calm_end : World A
   calm_end = after_events behaviour (world_of hosts seed stores) (events_of behaviour calm (world_of hosts seed stores) script)
 
@@ -96,43 +69,60 @@ module _ {A : Type 0} (behaviour : Behaviour A) (form : Form) (hosts : List (Hos
     pub tally : IsTally (codes_in (whole_lines calm_text)) counts
     pub here : text ≡ summary_text (length script) (digest_of Sha256 (canonical hosts script)) (digest_of Sha256 calm_text) counts
 
-  -- the summary was appended, and what a crash may leave of the board has the stores of the world behind the script
+  -- the summary was appended, and what a crash may leave of the board has the stores of the world after the script
   pub record RunsSummed (new : View) (before after : Option (List ℕ)) : Type 0 where
     pub text : Text
     pub summary : IsSummaryOf text
     pub appended : Appends before after text
     pub left : LeavesStores form new calm_end
 
-  -- a front of the summary was appended, and what a crash may leave of the board has the stores of the world behind the script
+  -- a front of the summary was appended, and what a crash may leave of the board has the stores of the world after the script
   pub record RunsCut (new : View) (before after : Option (List ℕ)) : Type 0 where
     pub text : Text
     pub summary : IsSummaryOf text
     pub front : AppendsFront text before after
     pub left : LeavesStores form new calm_end
 
-  -- what a crash may leave of the board has the stores of the world behind the first events of the script, in some weather
-  pub record LeavesSome (new : View) : Type 0 where
-    pub weather : Weather
-    pub made : List WorldEvent
-    pub behind : List WorldEvent
-    pub first : events_of behaviour weather (world_of hosts seed stores) script ≡ made ++ behind
-    pub left : LeavesStores form new (after_events behaviour (world_of hosts seed stores) made)
+  -- the first events of the script were made, and these replies are what was to be summed up of them: lines of which none is the board's,
+  -- and then one that isn't whole
+  pub record SumsFront (new : View) : Type 0 where
+    pub replies : Text
+    pub lines : List Text
+    pub line : Text
+    pub has : HasLines replies lines line
+    pub front : RunsFront behaviour form hosts seed stores script new (Some []) (Some replies)
 
-module _ {A : Type 0} (behaviour : Behaviour A) (form : Form) (hosts : List (Host A)) (seed : List ℕ) (script : List Line) where
-  -- a run for its summary alone ended so: its status, whether the sink is as it was, whether its board was honest and told its
-  -- reads, the board and what was written before and after it, and how often writes had failed before and after it. No order is made;
-  -- under a status that isn't Done or WriteFault nothing is written
-  pub record RunsGenerated (status : Status) (Same Honest : Type 0) (tells : Bool) (old new : View) (before after : Option (List ℕ)) (failed fails : ℕ) : Type 0 where
-    pub done : status ≡ Done → Honest → (stores : ℕ → Store) → BeginsWith form old (length hosts) stores
-        → RunsSummed behaviour form hosts seed stores script new before after
-    pub cut_short : status ≡ WriteFault → Honest → (stores : ℕ → Store) → BeginsWith form old (length hosts) stores
-        → RunsCut behaviour form hosts seed stores script new before after
-    pub broken : IsBroken status → Honest → (stores : ℕ → Store) → BeginsWith form old (length hosts) stores
-        → LeavesSome behaviour form hosts seed stores script new
-    pub unwritten : IsUnsummed status → Same
-    pub orders : HasOrders [] old new
-    pub cause : status ≡ BoardFault → Rose old.state.faults new.state.faults
-    pub refused : (why : OpenAnswer) → status ≡ StoreRefused why → Honest → IsRefusedByRule form old why
-    pub rule : (why : OpenAnswer) → status ≡ StoreRefused why → IsTrue tells → (counter : Counter) × IsRefusedAt form old new.state.reads counter why
-    pub complete : Honest → (stores : ℕ → Store) → BeginsWith form old (length hosts) stores → ¬ Rose failed fails
-        → ¬ Rose old.state.faults new.state.faults → (status ≡ Done) ⊎ (status ≡ NoMemory)
+  -- as such replies, of which the last line says that a turn lost the storage
+  abbrev pub SumsToLost : View → Type 0
+  SumsToLost new = (front : SumsFront new) × (begins_with (codes "board lost ") front.line ≡ true)
+
+-- a board before and after a run of these lines for its summary alone, and its sink before and after
+module _ {B W A : Type 0} (G : BoardGhosts B) (H : SinkGhosts W) (behaviour : Behaviour A) (form : Form) (hosts : List (Host A)) (seed : List ℕ) (script : List Line)
+    (board left : B) (sink written : W) where
+  -- what a status says whatever the board. No other status comes
+  abbrev pub SumsEndAs : Status → Type 0
+  SumsEndAs Done = ⊤
+  SumsEndAs WriteFault = Rose (H.failures sink) (H.failures written)
+  SumsEndAs NoMemory = written ≡ sink
+  SumsEndAs BoardFault = (written ≡ sink) × Rose (G.view board).state.faults (G.view left).state.faults
+  SumsEndAs (StoreRefused why) = (written ≡ sink) × IsRefusedAs G form (λ So. ⊥) board left sink written why
+  SumsEndAs status = ⊥
+
+  -- what a status says over a sound board with these stores. No other status comes
+  abbrev pub SumsAs : (ℕ → Store) → Status → Type 0
+  SumsAs stores Done = RunsSummed behaviour form hosts seed stores script (G.view left) (H.written sink) (H.written written)
+  SumsAs stores WriteFault = RunsCut behaviour form hosts seed stores script (G.view left) (H.written sink) (H.written written)
+  SumsAs stores NoMemory = SumsFront behaviour form hosts seed stores script (G.view left)
+  SumsAs stores BoardFault =
+      LeavesStores form (G.view left) (world_of hosts seed stores) ⊎ SumsToLost behaviour form hosts seed stores script (G.view left)
+  SumsAs stores status = ⊥
+
+  -- what its status says of such a run; no order was made; one that made something happen opened its board, where that is honest, by the
+  -- rule; and where no write failed and no call of a sound board, it is done, unless there was no memory
+  pub record RunsGenerated (status : Status) : Type 0 where
+    pub says : SumsEndAs status
+    pub sound : OnSound G form (length hosts) board (λ stores. SumsAs stores status)
+    pub orders : HasOrders [] (G.view board) (G.view left)
+    pub opened : G.honest board → ((written ≡ sink) × IsUnopened status) ⊎ HasOpened form (G.view board)
+    pub complete : ¬ Rose (H.failures sink) (H.failures written) → ¬ Rose (G.view board).state.faults (G.view left).state.faults
+        → OnSound G form (length hosts) board (λ stores. (status ≡ Done) ⊎ (status ≡ NoMemory))

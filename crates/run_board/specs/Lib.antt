@@ -1,5 +1,6 @@
 pub mod BoardLines
 pub mod Boards
+pub mod Endings
 pub mod Generated
 pub mod Isolation
 pub mod Layers
@@ -10,3 +11,4 @@ pub mod Runs
 pub mod Statuses
 pub mod Stops
 pub mod Transcript
+pub mod Writing

@@ -8,7 +8,6 @@ use Rattle.app_api.specs.declared.host.Host.{Host}
 use Rattle.store_api.specs.Stores.{Store}
 use Rattle.script.specs.declared.line.Line.{Line}
 use Rattle.script.specs.declared.line.Line.TheVariants as lines
-use Rattle.script.specs.declared.dialect.Dialect.TheVariants.{Whole}
 use Rattle.script.specs.Grammar.{names_of}
 use Rattle.board.specs.Moment.{Order, View}
 use Rattle.epoch.specs.Forms.{Form}
@@ -19,7 +18,7 @@ use Rattle.run_board.specs.Parts.{HasNoDamage, IsTextOfAllBut}
 use Rattle.run_board.specs.Transcript.{WorldEvent, after_events, events_of, transcript}
 use Rattle.run_board.specs.declared.lines.Stop.{Stop}
 use Rattle.run_board.specs.declared.status.Status.{Status}
-use Rattle.run_board.specs.declared.status.Status.TheVariants.{Done, BadWords, BadLine, TooLong, StoreRefused, LogFull, NoMemory, ReadFault, WriteFault, BoardFault}
+use Rattle.run_board.specs.declared.status.Status.TheVariants.{Done}
 use Rattle.tee_base.specs.Words.{Text}
 use Rattle.run_board.specs.Statuses.{stopped_as}
 
@@ -28,32 +27,6 @@ abbrev pub AreRunWords : List (String Global) → Type 0
 AreRunWords words =
     (map (λ word. string_bytes word) words ≡ codes "run" ∷ [])
     ⊎ ((image : List ℕ) × (map (λ word. string_bytes word) words ≡ codes "run" ∷ image ∷ []))
-
--- a status of a run whose script was read and all of whose lines are in the grammar
-abbrev pub IsServed : Status → Type 0
-IsServed Done = Unit {0}
-IsServed BadWords = ⊥
-IsServed (BadLine n) = ⊥
-IsServed TooLong = ⊥
-IsServed (StoreRefused why) = Unit {0}
-IsServed (LogFull app) = ⊥
-IsServed NoMemory = Unit {0}
-IsServed ReadFault = ⊥
-IsServed WriteFault = Unit {0}
-IsServed BoardFault = Unit {0}
-
--- a status of lines that stopped for want of memory or at a failed write
-abbrev pub IsStopped : Status → Type 0
-IsStopped Done = ⊥
-IsStopped BadWords = ⊥
-IsStopped (BadLine n) = ⊥
-IsStopped TooLong = ⊥
-IsStopped (StoreRefused why) = ⊥
-IsStopped (LogFull app) = ⊥
-IsStopped NoMemory = Unit {0}
-IsStopped ReadFault = ⊥
-IsStopped WriteFault = Unit {0}
-IsStopped BoardFault = ⊥
 
 -- how a run ends whose lines ended so
 abbrev pub ended_as : {X : Type 0} → Result X Stop → Status

@@ -1,22 +1,18 @@
 //! Workloads that are generated: their lines run as those of a script do, and a summary is written in place of the replies.
 
-ghost use Rattle.std.specs.Prelude.{◌≡◌, ◌↔◌, ◌⊎◌, ℕ, List, IfOk, IsTrue, length};
+ghost use Rattle.std.specs.Prelude.{◌≡◌, ◌↔◌, ◌⊎◌, ℕ, List, IfOk, IsTrue, Some, length};
 ghost use Rattle.std.specs.List.{AllByRecursion};
 ghost use Rattle.app_api.specs.Hosts.{HostsFit};
-ghost use Rattle.epoch.specs.declared.answer.OpenAnswer.{OpenAnswer as OpenRefusal};
 ghost use Rattle.mac_digest.specs.Hash.{digest_of};
 ghost use Rattle.mac_digest.specs.declared.digests.Hash.TheVariants.{Sha256};
 ghost use Rattle.report.specs.Texts.{summary_text};
 ghost use Rattle.script.specs.Canonical.{canonical};
 ghost use Rattle.script.specs.Workload.{workload_of};
-ghost use Rattle.store_api.specs.Stores.{Store};
 ghost use Rattle.summary.specs.Summaries.{IsSummary};
 ghost use Rattle.summary.specs.declared.cut.Cut.TheVariants.{Lost};
 ghost use Rattle.tee_base.specs.Faults.{Rose};
-ghost use Rattle.run_board.specs.Boards.{BeginsWith, HasOpened, IsRefusedByRule, IsRuleAnswer};
-ghost use Rattle.run_board.specs.Generated.{AreGenWords, IsBroken, RunsGenerated, WritesAs};
-ghost use Rattle.run_board.specs.Reading.{IsKnown, IsUnopened};
-ghost use Rattle.run_board.specs.Runs.{IsServed};
+ghost use Rattle.run_board.specs.Generated.{AreGenWords, RunsGenerated, WritesAs};
+ghost use Rattle.run_board.specs.Reading.{IsKnown};
 
 use crate::run::serve;
 use crate::status::Status;
@@ -83,11 +79,8 @@ fn write_summary<W: Sink>(
     summary: Summary,
     sink: &mut W,
 ) -> Status
-    ensures text { (hash : List ℕ) × (counts : List (ℕ × ℕ)) × IsSummary summary.text hash counts
-        × WritesAs result (summary_text lines script.now hash counts)
-        (W.written sink.old) (W.written sink.new) (sink.new ≡ sink.old) }
-    ensures fault { result ≡ Status.WriteFault
-        → Rose (W.failures sink.old) (W.failures sink.new) }
+    ensures { (hash : List ℕ) × (counts : List (ℕ × ℕ)) × IsSummary summary.text hash counts
+        × WritesAs W.Sink (summary_text lines script.now hash counts) sink.old sink.new result }
 {
     let (hash, codes) = summary.finish();
     let Ok(text) = summary_lines(
@@ -116,7 +109,7 @@ fn has_risen(before: u64, after: u64) -> bool
 /// storage tells of the board, where that counted a fault.
 fn cut_status(cut: Option<Cut>, before: u64, after: u64) -> Status
     ensures cause { (result ≡ Status.BoardFault) ↔ ((cut ≡ Some Lost) × Rose before after) }
-    ensures few { IsBroken result }
+    ensures few { (result ≡ Status.BoardFault) ⊎ (result ≡ Status.NoMemory) }
 {
     match cut {
         Some(Cut::Lost) if has_risen(before, after) => Status::BoardFault,
@@ -134,22 +127,9 @@ pub fn run_generated<B: Board, V: BoardVolume<B>, W: Sink, A: Application>(
     hosts: Vec<Host<A>>,
     seed: [u8; 32],
 ) -> (Status, B)
-    requires fit { HostsFit hosts.items }
-    ensures generated { RunsGenerated A.behaviour V.form hosts.items seed
-        (workload_of number (length hosts.items)) result.0 (sink.new ≡ sink.old) (B.honest board)
-        B.tells_reads (B.view board) (B.view result.1) (W.written sink.old) (W.written sink.new)
-        (W.failures sink.old) (W.failures sink.new) }
-    ensures accepted { (why : OpenRefusal) → result.0 ≡ Status.StoreRefused why
-        → B.honest board → (stores : ℕ → Store)
-        → BeginsWith V.form (B.view board) (length hosts.items) stores → ⊥ }
-    ensures refusal { (why : OpenRefusal) → result.0 ≡ Status.StoreRefused why → B.honest board
-        → IsRefusedByRule V.form (B.view result.1) why }
-    ensures answer { (why : OpenRefusal) → result.0 ≡ Status.StoreRefused why → IsRuleAnswer why }
-    ensures opened { B.honest board → ((sink.new ≡ sink.old) × IsUnopened result.0)
-        ⊎ HasOpened V.form (B.view board) }
-    ensures fault { result.0 ≡ Status.WriteFault
-        → Rose (W.failures sink.old) (W.failures sink.new) }
-    ensures few { IsServed result.0 }
+    requires { HostsFit hosts.items }
+    ensures { RunsGenerated B.Board W.Sink A.behaviour V.form hosts.items seed
+        (workload_of number (length hosts.items)) board result.1 sink.old sink.new result.0 }
 {
     let Ok(made) = workload_for(alloc, number, hosts.as_slice()) else {
         return (Status::NoMemory, board);
@@ -159,9 +139,10 @@ pub fn run_generated<B: Board, V: BoardVolume<B>, W: Sink, A: Application>(
     let before = board.faults();
     let mut summary = Summary::new(alloc);
     let (status, board) = serve::<B, V, Summary, A>(alloc, lines, &mut summary, board, hosts, seed);
+    let cut = summary.cut();
     match status {
         Status::Done => (write_summary(alloc, count, &hash, summary, sink), board),
-        Status::WriteFault => (cut_status(summary.cut(), before, board.faults()), board),
+        Status::WriteFault => (cut_status(cut, before, board.faults()), board),
         status => (status, board),
     }
 }

@@ -1,11 +1,8 @@
 //! What is written of a run: of what happened in an event, and of a loss of power.
 
-ghost use Rattle.std.specs.Prelude.{◌≡◌, ◌≤◌, IsErrOf, OnErr, OnOk};
-ghost use Rattle.std.specs.Io.KnownBytes.{Appends};
-ghost use Rattle.tee_base.specs.Faults.{Rose};
-ghost use Rattle.tee_base.specs.Transfer.{AppendsFront};
-ghost use Rattle.run_board.specs.Stops.{IsNoRefusal};
+ghost use Rattle.std.specs.Prelude.{◌≡◌};
 ghost use Rattle.run_board.specs.Transcript.{happened_lines, owner_name, power_line as power_text_of, replies_text};
+ghost use Rattle.run_board.specs.Writing.{Writes};
 
 use crate::lines::Stop;
 use alone::{Power, Reply};
@@ -16,12 +13,7 @@ use tee_core::Happened;
 
 /// Writes bytes.
 pub fn write_bytes<W: Sink>(sink: &mut W, bytes: &[u8]) -> Result<(), Stop>
-    ensures ok { OnOk result (Appends (W.written sink.old) (W.written sink.new) bytes.now) }
-    ensures err { OnErr result (AppendsFront bytes.now (W.written sink.old) (W.written sink.new)) }
-    ensures fault { IsErrOf result Stop.WriteFault
-        → Rose (W.failures sink.old) (W.failures sink.new) }
-    ensures later { W.failures sink.old ≤ W.failures sink.new }
-    ensures served { IsNoRefusal result }
+    ensures { Writes W.Sink bytes.now result sink.old sink.new }
 {
     match write_all(sink, bytes) {
         Ok(()) => Ok(()),
@@ -36,14 +28,7 @@ fn write_replies<W: Sink>(
     replies: &[Reply],
     sink: &mut W,
 ) -> Result<(), Stop>
-    ensures ok { OnOk result (Appends (W.written sink.old) (W.written sink.new)
-        (replies_text name.now replies.now)) }
-    ensures err { OnErr result (AppendsFront (replies_text name.now replies.now)
-        (W.written sink.old) (W.written sink.new)) }
-    ensures fault { IsErrOf result Stop.WriteFault
-        → Rose (W.failures sink.old) (W.failures sink.new) }
-    ensures later { W.failures sink.old ≤ W.failures sink.new }
-    ensures served { IsNoRefusal result }
+    ensures { Writes W.Sink (replies_text name.now replies.now) result sink.old sink.new }
 {
     for reply in replies {
         let line = reply_line(alloc, name, reply)?;
@@ -59,14 +44,7 @@ pub fn write_happened<W: Sink>(
     happened: &Happened,
     sink: &mut W,
 ) -> Result<(), Stop>
-    ensures ok { OnOk result (Appends (W.written sink.old) (W.written sink.new)
-        (happened_lines name.now happened.now)) }
-    ensures err { OnErr result (AppendsFront (happened_lines name.now happened.now)
-        (W.written sink.old) (W.written sink.new)) }
-    ensures fault { IsErrOf result Stop.WriteFault
-        → Rose (W.failures sink.old) (W.failures sink.new) }
-    ensures later { W.failures sink.old ≤ W.failures sink.new }
-    ensures served { IsNoRefusal result }
+    ensures { Writes W.Sink (happened_lines name.now happened.now) result sink.old sink.new }
 {
     let mark = happened_line(alloc, name, happened.kind, happened.turn)?;
     write_bytes(sink, mark.as_slice())?;
@@ -93,14 +71,7 @@ pub fn write_power<W: Sink>(
     told: Power,
     sink: &mut W,
 ) -> Result<(), Stop>
-    ensures ok { OnOk result (Appends (W.written sink.old) (W.written sink.new)
-        (power_text_of names.now told)) }
-    ensures err { OnErr result (AppendsFront (power_text_of names.now told)
-        (W.written sink.old) (W.written sink.new)) }
-    ensures fault { IsErrOf result Stop.WriteFault
-        → Rose (W.failures sink.old) (W.failures sink.new) }
-    ensures later { W.failures sink.old ≤ W.failures sink.new }
-    ensures served { IsNoRefusal result }
+    ensures { Writes W.Sink (power_text_of names.now told) result sink.old sink.new }
 {
     let line = power_line(alloc, owner_name(names, told), told)?;
     write_bytes(sink, line.as_slice())

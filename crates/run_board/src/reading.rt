@@ -1,14 +1,9 @@
 //! What a run and a race read: the script, and the names of the hosts.
 
-ghost use Rattle.std.specs.Prelude.{◌≡◌, ◌≤◌, ◌+◌, ℕ, IsErrOf, IfErr, IfOk, OnOk, length};
-ghost use Rattle.std.specs.Io.KnownBytes.{IsAtEnd};
-ghost use Rattle.std.specs.List.{AllByRecursion};
+ghost use Rattle.std.specs.Prelude.{◌≡◌, ◌≤◌, IfErr, IfOk};
 ghost use Rattle.app_api.specs.Hosts.{HostsFit};
 ghost use Rattle.script.specs.Grammar.{names_of};
-ghost use Rattle.tee_base.specs.Faults.{Rose};
-ghost use Rattle.tee_base.specs.Transfer.{ConsumesWithin, HasMoreThan};
-ghost use Rattle.tee_base.specs.declared.limits.TheConstants.{MAX_SCRIPT_BYTES};
-ghost use Rattle.run_board.specs.Reading.{IsBadAt, IsKnown, IsReadStatus, IsWithin, ReadsTo};
+ghost use Rattle.run_board.specs.Reading.{AreLinesOf, IsReadStatus, ReadsScript, status_of};
 
 use crate::status::Status;
 use app_api::{Application, Host};
@@ -24,27 +19,11 @@ pub fn read_lines<S: Source, A: Application>(
     dialect: Dialect,
 ) -> Result<Vec<Line>, Status>
     requires { HostsFit hosts.now }
-    ensures read { IfOk result (λ lines.
-        ReadsTo dialect hosts.now (S.left source.old) lines.items) }
-    ensures bad { (n : ℕ) → IsErrOf result (Status.BadLine n)
-        → IsBadAt dialect hosts.now (S.left source.old) n × IsAtEnd (S.left source.new) }
-    ensures at_end { OnOk result (IsAtEnd (S.left source.new)) }
-    ensures within { OnOk result (IsWithin (S.left source.old)) }
-    ensures bad_within { (n : ℕ) → IsErrOf result (Status.BadLine n)
-        → IsWithin (S.left source.old) }
-    ensures too_long { IsErrOf result Status.TooLong
-        → HasMoreThan MAX_SCRIPT_BYTES (S.left source.old) }
-    ensures fault { IsErrOf result Status.ReadFault
-        → Rose (S.failures source.old) (S.failures source.new) }
-    ensures later { S.failures source.old ≤ S.failures source.new }
-    ensures consumed { ConsumesWithin (MAX_SCRIPT_BYTES + 1)
-        (S.left source.old) (S.left source.new) }
-    ensures unfailed { IsErrOf result Status.TooLong
-        → S.failures source.new ≡ S.failures source.old }
-    ensures known { IfOk result (λ lines. AllByRecursion (IsKnown (length hosts.now)) lines.items) }
-    // each line takes a byte of the text at least
-    ensures count { IfOk result (λ lines. length lines.items ≤ MAX_SCRIPT_BYTES) }
+    ensures read { ReadsScript S.Source dialect hosts.now (status_of result) source.old source.new }
+    ensures lines { IfOk result (λ lines.
+        AreLinesOf dialect hosts.now (S.left source.old) lines.items) }
     ensures few { IfErr result IsReadStatus }
+    ensures later { S.failures source.old ≤ S.failures source.new }
 {
     let text = match read_all(alloc, source, limits::MAX_SCRIPT_BYTES) {
         Ok(text) => text,

@@ -1,5 +1,6 @@
 -- How a race ends, by how its lines ended and by how the writing of its logs did.
-use Rattle.std.proofs.Common.{◌≡◌, ◌∙◌, ◌<◌, ◌⊎◌, ◌==◌, ℕ, true, Err, Ok, Result, List, [], ◌∷◌, ap, arith, inl, inr, length, refl, subst, sym}
+use Rattle.std.proofs.Common.{◌≡◌, ◌∙◌, ◌<◌, ◌⊎◌, ◌==◌, ℕ, true, Err, Ok, Option, Result, List, [], ◌∷◌, ⊎_elim, ap, arith, inl, inr, length, refl, subst, sym}
+use Rattle.std.specs.Io.KnownBytes.{Appends}
 use Rattle.std.specs.List.{AllByRecursion}
 use Rattle.std.proofs.lemmas.Bool.{and_parts, eqb-true}
 use Rattle.std.proofs.lemmas.List.{length-map}
@@ -8,177 +9,74 @@ use Rattle.alone.specs.Logs.{KeptLog, Logged}
 use Rattle.app_api.specs.Behaviours.{Behaviour}
 use Rattle.app_api.specs.declared.host.Host.{Host}
 use Rattle.board.specs.Moment.{View}
+use Rattle.board.specs.declared.Board.{Ghosts as BoardGhosts}
 use Rattle.epoch.specs.Forms.{Form}
-use Rattle.epoch.specs.declared.answer.OpenAnswer.{OpenAnswer}
-use Rattle.epoch.specs.declared.answer.OpenAnswer.TheVariants as answers
 use Rattle.race.specs.Races.{CameTo, IsFullAs, IsUnordered, LeavesBegin, RunsOn, entries_of}
 use Rattle.race.specs.Wishes.{NameApps, is_line_of}
 use Rattle.race.specs.declared.client.Stopped.{Stopped}
 use Rattle.race.specs.declared.client.Stopped.TheVariants as ends
 use Rattle.script.specs.Grammar.{names_of}
+use Rattle.script.specs.declared.dialect.Dialect.TheVariants.{WithoutBoard}
 use Rattle.script.specs.declared.line.Line.{Line}
 use Rattle.script.specs.declared.line.Line.TheVariants as lines
 use Rattle.store_api.specs.Stores.{Store}
+use Rattle.tee_base.specs.Faults.{Rose}
+use Rattle.tee_base.specs.Transfer.{AppendsFront}
+use Rattle.tee_base.specs.declared.io.Sink.{Ghosts as SinkGhosts}
 use Rattle.tee_core.specs.World.{world_of}
-use Rattle.run_board.specs.Boards.{BeginsWith, HasOrders, LeavesStores}
-use Rattle.tee_top.specs.Races.{IsRaced, IsUnraced, Races, WritesLogs, logs_text, raced_as}
-use Rattle.run_board.specs.Reading.{IsKnown, IsReadStatus, IsUnrun}
-use Rattle.run_board.specs.Runs.{IsStopped}
-use Rattle.run_board.specs.Statuses.{refusal_of, stopped_as}
-use Rattle.run_board.specs.Stops.{IsNoRefusal}
+use Rattle.run_board.specs.Boards.{BeginsWith, HasOpened, HasOrders, LeavesStores}
+use Rattle.run_board.specs.Reading.{IsKnown, IsOfLines, IsOfScript, IsReadStatus, ReadsTo}
+use Rattle.run_board.specs.Statuses.{stopped_as}
+use Rattle.run_board.specs.Writing.{Writes}
 use Rattle.run_board.specs.declared.lines.Stop.{Stop}
 use Rattle.run_board.specs.declared.lines.Stop.TheVariants as stops
 use Rattle.run_board.specs.declared.status.Status.{Status}
 use Rattle.run_board.specs.declared.status.Status.TheVariants.{Done, BadWords, BadLine, TooLong, StoreRefused, LogFull, NoMemory, ReadFault, WriteFault, BoardFault}
+use Rattle.run_board.proofs.Ended.{read_unopened}
 use Rattle.run_board.proofs.Opened.{opening_leaves}
+use Rattle.tee_top.specs.Races.{IsRaced, RaceEnds, RaceEndsAs, Races, RacesAs, WritesLogs, WroteAs, logs_text, raced_as}
 
--- ---- lines that ended
+-- ---- logs that were to be written
 
--- no lines end at a failed write
-pub never_fault : (ended : Result (Unit {0}) Stopped) → raced_as ended ≡ WriteFault → ⊥
-never_fault (Ok done) e = cc
-never_fault (Err (ends.LogFull app)) e = cc
-never_fault (Err ends.NoMemory) e = cc
+-- lines that ended for want of memory have none
+pub wrote_none : {W : Type 0} (H : SinkGhosts W) (ended : Result (Unit {0}) Stopped) (text : List ℕ) (sink : W) → raced_as ended ≡ NoMemory → WroteAs H ended text sink sink NoMemory
+wrote_none H ended text sink none = inl (refl, none)
 
--- lines that ended were begun
-pub never_unraced : (ended : Result (Unit {0}) Stopped) → IsUnraced (raced_as ended) → ⊥
-never_unraced (Ok done) h = h
-never_unraced (Err (ends.LogFull app)) h = h
-never_unraced (Err ends.NoMemory) h = h
+-- all were written
+pub wrote_all : {W : Type 0} (H : SinkGhosts W) (ended : Result (Unit {0}) Stopped) (text : List ℕ) (sink written : W) (status : Status) → status ≡ raced_as ended → ¬ (status ≡ NoMemory)
+    → Appends (H.written sink) (H.written written) text → WroteAs H ended text sink written status
+wrote_all H (Ok done) text sink written status told some all = subst (WroteAs H (Ok done) text sink written) (sym told) (refl, all)
+wrote_all H (Err (ends.LogFull app)) text sink written status told some all = subst (WroteAs H (Err (ends.LogFull app)) text sink written) (sym told) (refl, all)
+wrote_all H (Err ends.NoMemory) text sink written status told some all = absurd (some told)
 
 -- lines that didn't end for want of memory have logs to be written
-pub raced_unless : (ended : Result (Unit {0}) Stopped) → ¬ (raced_as ended ≡ NoMemory) → IsRaced (raced_as ended)
+raced_unless : (ended : Result (Unit {0}) Stopped) → ¬ (raced_as ended ≡ NoMemory) → IsRaced (raced_as ended)
 raced_unless (Ok done) some = tt
 raced_unless (Err (ends.LogFull app)) some = tt
 raced_unless (Err ends.NoMemory) some = absurd (some refl)
 
--- ---- logs that were not all written
+-- a front of them was written
+pub wrote_front : {W : Type 0} (H : SinkGhosts W) (ended : Result (Unit {0}) Stopped) (text : List ℕ) (sink written : W) (stop : Stop) → ¬ (raced_as ended ≡ NoMemory)
+    → Writes {X = Unit {0}} H text (Err stop) sink written → WroteAs H ended text sink written (stopped_as stop)
+wrote_front H ended text sink written stops.NoMemory some writes = inr (raced_unless ended some, writes.err)
+wrote_front H ended text sink written stops.WriteFault some writes = (writes.fault refl, raced_unless ended some, writes.err)
+wrote_front H ended text sink written (stops.Refused why) some writes = absurd writes.served
 
-pub cut_stops : (stop : Stop) → IsNoRefusal {X = Unit {0}} (Err stop) → IsStopped (stopped_as stop)
-cut_stops stops.NoMemory served = tt
-cut_stops stops.WriteFault served = tt
-cut_stops (stops.Refused why) served = absurd served
+-- a race whose logs were to be written had its lines read, and none of them is unopened
+pub wrote_served : {W : Type 0} (H : SinkGhosts W) (ended : Result (Unit {0}) Stopped) (text : List ℕ) (sink written : W) (status : Status) → WroteAs H ended text sink written status
+    → IsOfLines status
+wrote_served H ended text sink written Done wrote = tt
+wrote_served H ended text sink written (LogFull app) wrote = tt
+wrote_served H ended text sink written NoMemory wrote = tt
+wrote_served H ended text sink written WriteFault wrote = tt
+wrote_served H ended text sink written (StoreRefused why) wrote = tt
+wrote_served H ended text sink written BoardFault wrote = tt
+wrote_served H ended text sink written BadWords wrote = wrote
+wrote_served H ended text sink written (BadLine n) wrote = wrote
+wrote_served H ended text sink written TooLong wrote = wrote
+wrote_served H ended text sink written ReadFault wrote = wrote
 
-pub cut_fault : (stop : Stop) → IsNoRefusal {X = Unit {0}} (Err stop) → stopped_as stop ≡ WriteFault → stop ≡ stops.WriteFault
-cut_fault stops.NoMemory served e = absurd (cc)
-cut_fault stops.WriteFault served e = refl
-cut_fault (stops.Refused why) served e = absurd served
-
-pub stopped_unraced : (status : Status) → IsStopped status → IsRaced status → ⊥
-stopped_unraced Done stopped raced = stopped
-stopped_unraced BadWords stopped raced = stopped
-stopped_unraced (BadLine n) stopped raced = stopped
-stopped_unraced TooLong stopped raced = stopped
-stopped_unraced (StoreRefused why) stopped raced = stopped
-stopped_unraced (LogFull app) stopped raced = stopped
-stopped_unraced NoMemory stopped raced = raced
-stopped_unraced ReadFault stopped raced = stopped
-stopped_unraced WriteFault stopped raced = raced
-stopped_unraced BoardFault stopped raced = stopped
-
-pub stopped_begun : (status : Status) → IsStopped status → IsUnraced status → ⊥
-stopped_begun Done stopped unraced = stopped
-stopped_begun BadWords stopped unraced = stopped
-stopped_begun (BadLine n) stopped unraced = stopped
-stopped_begun TooLong stopped unraced = stopped
-stopped_begun (StoreRefused why) stopped unraced = stopped
-stopped_begun (LogFull app) stopped unraced = stopped
-stopped_begun NoMemory stopped unraced = unraced
-stopped_begun ReadFault stopped unraced = stopped
-stopped_begun WriteFault stopped unraced = unraced
-stopped_begun BoardFault stopped unraced = stopped
-
--- ---- a script that wasn't read
-
-pub read_unraced : (status : Status) → IsReadStatus status → IsRaced status → ⊥
-read_unraced Done read raced = read
-read_unraced BadWords read raced = read
-read_unraced (BadLine n) read raced = raced
-read_unraced TooLong read raced = raced
-read_unraced (StoreRefused why) read raced = read
-read_unraced (LogFull app) read raced = read
-read_unraced NoMemory read raced = raced
-read_unraced ReadFault read raced = raced
-read_unraced WriteFault read raced = read
-read_unraced BoardFault read raced = read
-
--- ---- a board that wasn't opened
-
--- a status of a race whose board wasn't opened
-abbrev pub IsOfRefusal : Status → Type 0
-IsOfRefusal Done = ⊥
-IsOfRefusal BadWords = ⊥
-IsOfRefusal (BadLine n) = ⊥
-IsOfRefusal TooLong = ⊥
-IsOfRefusal (StoreRefused why) = Unit {0}
-IsOfRefusal (LogFull app) = ⊥
-IsOfRefusal NoMemory = Unit {0}
-IsOfRefusal ReadFault = ⊥
-IsOfRefusal WriteFault = ⊥
-IsOfRefusal BoardFault = Unit {0}
-
-pub refusal_is : (why : OpenAnswer) → IsOfRefusal (refusal_of why)
-refusal_is (answers.TooSmall blocks) = tt
-refusal_is (answers.NoVolume counter) = tt
-refusal_is (answers.BadHeader slot found kept) = tt
-refusal_is (answers.UnknownVersion version) = tt
-refusal_is (answers.Rollback sequence counter) = tt
-refusal_is (answers.Ahead sequence counter) = tt
-refusal_is (answers.OldMismatch tags) = tt
-refusal_is (answers.OldGarbled region leaf) = tt
-refusal_is answers.Failed = tt
-refusal_is answers.NoMemory = tt
-
-pub refusal_unraced : (status : Status) → IsOfRefusal status → IsRaced status → ⊥
-refusal_unraced Done refused raced = refused
-refusal_unraced BadWords refused raced = refused
-refusal_unraced (BadLine n) refused raced = refused
-refusal_unraced TooLong refused raced = refused
-refusal_unraced (StoreRefused why) refused raced = raced
-refusal_unraced (LogFull app) refused raced = refused
-refusal_unraced NoMemory refused raced = raced
-refusal_unraced ReadFault refused raced = refused
-refusal_unraced WriteFault refused raced = refused
-refusal_unraced BoardFault refused raced = raced
-
-pub refusal_unrun : (status : Status) → IsOfRefusal status → IsUnrun status → ⊥
-refusal_unrun Done refused unrun = refused
-refusal_unrun BadWords refused unrun = refused
-refusal_unrun (BadLine n) refused unrun = refused
-refusal_unrun TooLong refused unrun = refused
-refusal_unrun (StoreRefused why) refused unrun = unrun
-refusal_unrun (LogFull app) refused unrun = refused
-refusal_unrun NoMemory refused unrun = unrun
-refusal_unrun ReadFault refused unrun = refused
-refusal_unrun WriteFault refused unrun = refused
-refusal_unrun BoardFault refused unrun = unrun
-
--- ---- a race that was run
-
-pub unrun_unraced : (status : Status) → IsUnrun status → IsUnraced status
-unrun_unraced Done unrun = absurd unrun
-unrun_unraced BadWords unrun = tt
-unrun_unraced (BadLine n) unrun = tt
-unrun_unraced TooLong unrun = tt
-unrun_unraced (StoreRefused why) unrun = absurd unrun
-unrun_unraced (LogFull app) unrun = absurd unrun
-unrun_unraced NoMemory unrun = absurd unrun
-unrun_unraced ReadFault unrun = tt
-unrun_unraced WriteFault unrun = absurd unrun
-unrun_unraced BoardFault unrun = absurd unrun
-
--- where no write failed, it wrote its logs, or there was no memory
-pub raced_told : (status : Status) → ¬ IsUnraced status → ¬ (status ≡ WriteFault) → IsRaced status ⊎ (status ≡ NoMemory)
-raced_told Done begun write = inl tt
-raced_told BadWords begun write = absurd (begun tt)
-raced_told (BadLine n) begun write = absurd (begun tt)
-raced_told TooLong begun write = absurd (begun tt)
-raced_told (StoreRefused why) begun write = absurd (begun tt)
-raced_told (LogFull app) begun write = inl tt
-raced_told NoMemory begun write = inr refl
-raced_told ReadFault begun write = absurd (begun tt)
-raced_told WriteFault begun write = absurd (write refl)
-raced_told BoardFault begun write = absurd (begun tt)
+-- ---- a log that is full
 
 -- a full log is one of those that there are
 pub full_known : (ended : Result (Unit {0}) Stopped) (script : List Line) (logs : List (List Logged)) (app count : ℕ) → raced_as ended ≡ LogFull app → IsFullAs ended script logs
@@ -235,3 +133,144 @@ module _ {A : Type 0} (hosts : List (Host A)) (script : List Line) (names : List
 -- there is a log for each name
 pub as_many_logs : {A : Type 0} (hosts : List (Host A)) (names : List (List ℕ)) (kept : List KeptLog) → names ≡ names_of hosts → length (entries_of kept) ≡ length hosts → length kept ≡ length names
 as_many_logs {A = A} hosts names kept same many = sym (length-map kept (λ (log : KeptLog). log.entries)) ∙ many ∙ sym (length-map hosts (λ (host : Host A). host.name)) ∙ sym (ap length same)
+
+-- ---- rows
+
+-- a race that wasn't begun leaves all as it was
+module _ {B W A : Type 0} (G : BoardGhosts B) (H : SinkGhosts W) (form : Form) (hosts : List (Host A)) (Of : (List Line → Type 0) → Type 0) (board : B) (sink : W) where
+  unread_row : (status : Status) → IsReadStatus status → RaceEndsAs G H form hosts Of board board sink sink status
+  unread_row (BadLine n) few = (refl, refl)
+  unread_row TooLong few = (refl, refl)
+  unread_row ReadFault few = (refl, refl)
+  unread_row NoMemory few = tt
+  unread_row Done few = absurd few
+  unread_row BadWords few = absurd few
+  unread_row (StoreRefused why) few = absurd few
+  unread_row (LogFull app) few = absurd few
+  unread_row WriteFault few = absurd few
+  unread_row BoardFault few = absurd few
+
+  pub unread_race : (status : Status) → IsReadStatus status → RaceEnds G H form hosts Of board board sink sink status
+  unread_race status few = record {
+    says = unread_row status few;
+    orders = orders_same (G.view board);
+    opened = λ honest. inl (refl, read_unopened status few);
+  }
+
+  pub no_race : RaceEnds G H form hosts Of board board sink sink BadWords
+  no_race = record { says = (refl, refl); orders = orders_same (G.view board); opened = λ honest. inl (refl, tt) }
+
+  pub unread_races : (behaviour : Behaviour A) (seed : List ℕ) (stores : ℕ → Store) (status : Status) → IsReadStatus status
+      → RacesAs G H behaviour form hosts seed Of board board sink sink stores status
+  unread_races behaviour seed stores (BadLine n) few = tt
+  unread_races behaviour seed stores TooLong few = tt
+  unread_races behaviour seed stores ReadFault few = tt
+  unread_races behaviour seed stores NoMemory few = inl (refl, refl)
+  unread_races behaviour seed stores Done few = absurd few
+  unread_races behaviour seed stores BadWords few = absurd few
+  unread_races behaviour seed stores (StoreRefused why) few = absurd few
+  unread_races behaviour seed stores (LogFull app) few = absurd few
+  unread_races behaviour seed stores WriteFault few = absurd few
+  unread_races behaviour seed stores BoardFault few = absurd few
+
+-- the lines of a script were raced, over a board that was opened
+module _ {B W A : Type 0} (G : BoardGhosts B) (H : SinkGhosts W) (form : Form) (hosts : List (Host A)) (text : Option (List ℕ)) (script : List Line)
+    (reads : ReadsTo WithoutBoard hosts text script) (names : List (List ℕ)) (same : names ≡ names_of hosts) (board left : B) (sink written : W) (ended : Result (Unit {0}) Stopped)
+    (logs : List (List Logged)) (runs : RunsOn (length hosts) script ended logs (G.view board) (G.view left)) where
+  abbrev Of : (List Line → Type 0) → Type 0
+  Of = IsOfScript WithoutBoard hosts text
+
+  abbrev Wrote : Status → Type 0
+  Wrote = WroteAs H ended (logs_text names logs) sink written
+
+  writes_as : (status : Status) (IsWritten : List ℕ → Type 0) → raced_as ended ≡ status → IsWritten (logs_text names logs)
+      → WritesLogs hosts script status IsWritten (G.view board) (G.view left)
+  writes_as status IsWritten told is = writes_logs hosts script names same (G.view board) (G.view left) ended logs runs status IsWritten told is
+
+  wrote_row : (status : Status) → Wrote status → RaceEndsAs G H form hosts Of board left sink written status
+  wrote_row Done wrote = (script, reads, writes_as Done (λ t. Appends (H.written sink) (H.written written) t) wrote.0 wrote.1)
+  wrote_row (LogFull app) wrote = (
+    full_known ended script logs app (length hosts) wrote.0 runs.full runs.as_many,
+    (script, reads, writes_as (LogFull app) (λ t. Appends (H.written sink) (H.written written) t) wrote.0 wrote.1),
+  )
+  wrote_row WriteFault wrote = (
+    wrote.0,
+    (script, reads, (raced_as ended, wrote.1, writes_as (raced_as ended) (λ t. AppendsFront t (H.written sink) (H.written written)) refl wrote.2)),
+  )
+  wrote_row NoMemory wrote = tt
+  wrote_row (StoreRefused why) wrote = absurd wrote
+  wrote_row BoardFault wrote = absurd wrote
+  wrote_row BadWords wrote = absurd wrote
+  wrote_row (BadLine n) wrote = absurd wrote
+  wrote_row TooLong wrote = absurd wrote
+  wrote_row ReadFault wrote = absurd wrote
+
+  pub wrote_race : (status : Status) → Wrote status → (G.honest board → HasOpened form (G.view board)) → RaceEnds G H form hosts Of board left sink written status
+  wrote_race status wrote opened = record {
+    says = wrote_row status wrote;
+    orders = orders_none (G.view board) (G.view left) runs.board;
+    opened = λ honest. inr (opened honest);
+  }
+
+  pub wrote_races : (behaviour : Behaviour A) (seed : List ℕ) (stores : ℕ → Store) → CameTo behaviour hosts seed stores script form ended logs (G.view left)
+      → (status : Status) → Wrote status → RacesAs G H behaviour form hosts seed Of board left sink written stores status
+  wrote_races behaviour seed stores came Done wrote = (
+    script,
+    reads,
+    races hosts script names same (G.view board) (G.view left) ended logs runs behaviour form seed stores came Done (λ t. Appends (H.written sink) (H.written written) t) wrote.0 wrote.1,
+  )
+  wrote_races behaviour seed stores came (LogFull app) wrote = (
+    script,
+    reads,
+    races hosts script names same (G.view board) (G.view left) ended logs runs behaviour form seed stores came (LogFull app) (λ t. Appends (H.written sink) (H.written written) t) wrote.0 wrote.1,
+  )
+  wrote_races behaviour seed stores came WriteFault wrote = (
+    script,
+    reads,
+    (
+      raced_as ended,
+      wrote.1,
+      races hosts script names same (G.view board) (G.view left) ended logs runs behaviour form seed stores came (raced_as ended) (λ t. AppendsFront t (H.written sink) (H.written written)) refl
+          wrote.2,
+    ),
+  )
+  wrote_races behaviour seed stores came NoMemory wrote =
+      inr (
+        script,
+        reads,
+        ⊎_elim
+            (λ none. inl (
+              none.0,
+              inr (races hosts script names same (G.view board) (G.view left) ended logs runs behaviour form seed stores came NoMemory (λ t. Unit {0}) none.1 tt),
+            ))
+            (λ some. inr (
+              raced_as ended,
+              some.0,
+              races hosts script names same (G.view board) (G.view left) ended logs runs behaviour form seed stores came (raced_as ended)
+                  (λ t. AppendsFront t (H.written sink) (H.written written)) refl some.1,
+            ))
+            wrote,
+      )
+  wrote_races behaviour seed stores came (StoreRefused why) wrote = wrote
+  wrote_races behaviour seed stores came BoardFault wrote = absurd wrote
+  wrote_races behaviour seed stores came BadWords wrote = tt
+  wrote_races behaviour seed stores came (BadLine n) wrote = tt
+  wrote_races behaviour seed stores came TooLong wrote = tt
+  wrote_races behaviour seed stores came ReadFault wrote = tt
+
+-- where no write and no call of a sound board failed, a race whose lines were read writes its logs, or there was no memory
+module _ {B W A : Type 0} (G : BoardGhosts B) (H : SinkGhosts W) (behaviour : Behaviour A) (form : Form) (hosts : List (Host A)) (seed : List ℕ) (Of : (List Line → Type 0) → Type 0)
+    (board left : B) (sink written : W) (stores : ℕ → Store) where
+  pub race_completes : (status : Status) → IsOfLines status → RaceEndsAs G H form hosts Of board left sink written status
+      → RacesAs G H behaviour form hosts seed Of board left sink written stores status → ¬ Rose (H.failures sink) (H.failures written)
+      → ¬ Rose (G.view board).state.faults (G.view left).state.faults → IsRaced status ⊎ (status ≡ NoMemory)
+  race_completes Done served row races wrote steady = inl tt
+  race_completes (LogFull app) served row races wrote steady = inl tt
+  race_completes NoMemory served row races wrote steady = inr refl
+  race_completes WriteFault served row races wrote steady = absurd (wrote row.0)
+  race_completes BoardFault served row races wrote steady = absurd (steady row.1.failed)
+  race_completes (StoreRefused why) served row races wrote steady = absurd races
+  race_completes BadWords served row races wrote steady = absurd served
+  race_completes (BadLine n) served row races wrote steady = absurd served
+  race_completes TooLong served row races wrote steady = absurd served
+  race_completes ReadFault served row races wrote steady = absurd served

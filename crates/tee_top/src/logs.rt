@@ -1,11 +1,8 @@
 //! What is written of a race: the log of each host.
 
-ghost use Rattle.std.specs.Prelude.{◌≡◌, ◌≤◌, IsErrOf, OnErr, OnOk, length};
-ghost use Rattle.std.specs.Io.KnownBytes.{Appends};
-ghost use Rattle.tee_base.specs.Faults.{Rose};
-ghost use Rattle.tee_base.specs.Transfer.{AppendsFront};
+ghost use Rattle.std.specs.Prelude.{◌≡◌, length};
 ghost use Rattle.race.specs.Races.{entries_of};
-ghost use Rattle.run_board.specs.Stops.{IsNoRefusal};
+ghost use Rattle.run_board.specs.Writing.{Writes};
 ghost use Rattle.tee_top.specs.Races.{logs_text};
 
 use alone::AppLog;
@@ -22,14 +19,7 @@ pub fn write_logs<W: Sink>(
     sink: &mut W,
 ) -> Result<(), Stop>
     requires { length logs.now ≡ length names.now }
-    ensures ok { OnOk result (Appends (W.written sink.old) (W.written sink.new)
-        (logs_text names.now (entries_of logs.now))) }
-    ensures err { OnErr result (AppendsFront (logs_text names.now (entries_of logs.now))
-        (W.written sink.old) (W.written sink.new)) }
-    ensures fault { IsErrOf result Stop.WriteFault
-        → Rose (W.failures sink.old) (W.failures sink.new) }
-    ensures later { W.failures sink.old ≤ W.failures sink.new }
-    ensures served { IsNoRefusal result }
+    ensures { Writes W.Sink (logs_text names.now (entries_of logs.now)) result sink.old sink.new }
 {
     for (name, log) in names.iter().zip(logs) {
         let text = log_lines(alloc, name.as_slice(), log)?;

@@ -1,21 +1,15 @@
 //! The race of a script: each client in a thread of its own.
 
-ghost use Rattle.std.specs.Prelude.{◌≡◌, ◌⊎◌, ◌↔◌, ◌<◌, ◌+◌, ℕ, List, [], IsTrue, length};
-ghost use Rattle.std.specs.Io.KnownBytes.{Appends, IsAtEnd};
+ghost use Rattle.std.specs.Prelude.{◌≡◌, ◌⊎◌, ◌↔◌, ℕ, List, IsTrue, length};
 ghost use Rattle.app_api.specs.Hosts.{HostsFit};
 ghost use Rattle.script.specs.declared.line.Line.{Line};
 ghost use Rattle.script.specs.declared.dialect.Dialect.TheVariants.{WithoutBoard};
 ghost use Rattle.tee_base.specs.Faults.{Rose};
-ghost use Rattle.tee_base.specs.Transfer.{AppendsFront, ConsumesWithin, HasMoreThan};
-ghost use Rattle.tee_base.specs.declared.limits.TheConstants.{MAX_SCRIPT_BYTES};
-ghost use Rattle.store_api.specs.Stores.{Store};
 ghost use Rattle.tee_core.specs.InUse.{form_in_use};
-ghost use Rattle.tee_core.specs.World.{world_of};
-ghost use Rattle.epoch.specs.declared.answer.OpenAnswer.{OpenAnswer as OpenRefusal};
 ghost use Rattle.race.specs.Races.{entries_of};
-ghost use Rattle.run_board.specs.Boards.{BeginsWith, FailsAtFirst, HasOpened, HasOrders, IsRefusedAt, IsRefusedByRule, IsRuleAnswer, LeavesStores};
-ghost use Rattle.tee_top.specs.Races.{AreRaceWords, IsRaced, IsUnraced, Races, RacesFront, RacesUnwritten, WritesLogs, logs_text, raced_as};
-ghost use Rattle.run_board.specs.Reading.{IsBadAt, IsBadText, IsOfScript, IsReadable, IsText, IsTooMuch, IsUnopened, IsUnrun};
+ghost use Rattle.run_board.specs.Endings.{AnswersWords, OnSound};
+ghost use Rattle.run_board.specs.Reading.{IsOfScript, IsReadable, IsText, ReadsScript};
+ghost use Rattle.tee_top.specs.Races.{AreRaceWords, IsRaced, RaceEnds, RacesAs, WroteAs, logs_text, raced_as};
 
 use crate::logs::write_logs;
 use app_api::{Application, Host};
@@ -58,20 +52,8 @@ fn write_raced<B: Board, W: Sink>(
 ) -> (Status, B)
     requires { length raced.logs.items ≡ length names.now }
     ensures board { result.1 ≡ raced.board }
-    ensures whole { IsRaced result.0 → (raced_as raced.ended ≡ result.0)
-        × Appends (W.written sink.old) (W.written sink.new)
-        (logs_text names.now (entries_of raced.logs.items)) }
-    ensures front { result.0 ≡ Status.WriteFault → IsRaced (raced_as raced.ended)
-        × AppendsFront (logs_text names.now (entries_of raced.logs.items))
-        (W.written sink.old) (W.written sink.new) }
-    ensures no_memory { result.0 ≡ Status.NoMemory
-        → ((sink.new ≡ sink.old) × (raced_as raced.ended ≡ Status.NoMemory))
-        ⊎ (IsRaced (raced_as raced.ended)
-        × AppendsFront (logs_text names.now (entries_of raced.logs.items))
-        (W.written sink.old) (W.written sink.new)) }
-    ensures fault { result.0 ≡ Status.WriteFault
-        → Rose (W.failures sink.old) (W.failures sink.new) }
-    ensures few { IsUnraced result.0 → ⊥ }
+    ensures told { WroteAs W.Sink raced.ended (logs_text names.now (entries_of raced.logs.items))
+        sink.old sink.new result.0 }
 {
     let Raced { logs, board, ended } = raced;
     match race_status(ended) {
@@ -112,91 +94,27 @@ pub fn race_tee<
     gate: &G,
 ) -> (Status, B)
     requires { HostsFit hosts.items }
-    // what is written: on a sound board one legal log for each host, which follows each client's lines or the first of them
-    ensures written { IsRaced result.0 → B.honest board → (stores : ℕ → Store)
-        → BeginsWith form_in_use (B.view board) (length hosts.items) stores
-        → IsOfScript WithoutBoard hosts.items (S.left source.old) (λ script.
-        Races A.behaviour form_in_use hosts.items seed stores script result.0
-        (λ text. Appends (W.written sink.old) (W.written sink.new) text)
-        (B.view board) (B.view result.1)) }
-    ensures cut_short { result.0 ≡ Status.WriteFault → B.honest board → (stores : ℕ → Store)
-        → BeginsWith form_in_use (B.view board) (length hosts.items) stores
-        → IsOfScript WithoutBoard hosts.items (S.left source.old) (λ script.
-        RacesFront A.behaviour form_in_use hosts.items seed stores script
-        (B.view board) (B.view result.1) (W.written sink.old) (W.written sink.new)) }
-    ensures no_memory { result.0 ≡ Status.NoMemory → B.honest board → (stores : ℕ → Store)
-        → BeginsWith form_in_use (B.view board) (length hosts.items) stores
-        → ((sink.new ≡ sink.old) × (result.1 ≡ board))
-        ⊎ IsOfScript WithoutBoard hosts.items (S.left source.old) (λ script.
-        ((sink.new ≡ sink.old) × RacesUnwritten A.behaviour form_in_use hosts.items seed stores
-        script (B.view board) (B.view result.1))
-        ⊎ RacesFront A.behaviour form_in_use hosts.items seed stores script
-        (B.view board) (B.view result.1) (W.written sink.old) (W.written sink.new)) }
-    // on each board: a log that tells of a loss has its fault, and a full log its next line
-    ensures losses { IsRaced result.0
-        → IsOfScript WithoutBoard hosts.items (S.left source.old) (λ script.
-        WritesLogs hosts.items script result.0
-        (λ text. Appends (W.written sink.old) (W.written sink.new) text)
-        (B.view board) (B.view result.1)) }
-    ensures cut_losses { result.0 ≡ Status.WriteFault
-        → IsOfScript WithoutBoard hosts.items (S.left source.old) (λ script.
-        (told : Status) × IsRaced told × WritesLogs hosts.items script told
-        (λ text. AppendsFront text (W.written sink.old) (W.written sink.new))
-        (B.view board) (B.view result.1)) }
-    ensures known { (app : ℕ) → result.0 ≡ Status.LogFull app → app < length hosts.items }
-    // the board: no order is made to it, and why it isn't opened
-    ensures orders { HasOrders [] (B.view board) (B.view result.1) }
-    ensures cause { result.0 ≡ Status.BoardFault
-        → FailsAtFirst (B.view board) (B.view result.1) }
-    ensures board_fault { result.0 ≡ Status.BoardFault → B.honest board → (stores : ℕ → Store)
-        → BeginsWith form_in_use (B.view board) (length hosts.items) stores
-        → LeavesStores form_in_use (B.view result.1) (world_of hosts.items seed stores) }
-    ensures accepted { (why : OpenRefusal) → result.0 ≡ Status.StoreRefused why
-        → B.honest board → (stores : ℕ → Store)
-        → BeginsWith form_in_use (B.view board) (length hosts.items) stores → ⊥ }
-    ensures refused { (why : OpenRefusal) → result.0 ≡ Status.StoreRefused why → B.honest board
-        → IsRefusedByRule form_in_use (B.view board) why }
-    ensures rule { (why : OpenRefusal) → result.0 ≡ Status.StoreRefused why → IsTrue B.tells_reads
-        → (counter : ℕ) × IsRefusedAt form_in_use (B.view board)
-        (B.view result.1).state.reads counter why }
-    ensures answer { (why : OpenRefusal) → result.0 ≡ Status.StoreRefused why → IsRuleAnswer why }
-    ensures opened { B.honest board → ((sink.new ≡ sink.old) × IsUnopened result.0)
-        ⊎ HasOpened form_in_use (B.view board) }
-    // when each status comes
-    ensures complete { (text : List ℕ) (script : List Line) (stores : ℕ → Store)
-        → IsReadable (AreRaceWords words.now) (S.left source.old) text (S.failures source.old)
-        (S.failures source.new)
-        → ¬ Rose (W.failures sink.old) (W.failures sink.new) → B.honest board
-        → BeginsWith form_in_use (B.view board) (length hosts.items) stores
-        → ¬ Rose (B.view board).state.faults (B.view result.1).state.faults
+    ensures words { AnswersWords (AreRaceWords words.now) result.0
+        ((source.new ≡ source.old) × (sink.new ≡ sink.old) × (result.1 ≡ board)) }
+    ensures reading { AreRaceWords words.now
+        → ReadsScript S.Source WithoutBoard hosts.items result.0 source.old source.new }
+    // whatever the board: no order, what the logs tell of losses, why it wasn't opened, and what is left alone
+    ensures ends { RaceEnds B.Board W.Sink form_in_use hosts.items
+        (IsOfScript WithoutBoard hosts.items (S.left source.old))
+        board result.1 sink.old sink.new result.0 }
+    // on a sound board: a legal log for each host, which follows each client's lines or the first of them
+    ensures written { OnSound B.Board form_in_use (length hosts.items) board (λ stores.
+        RacesAs B.Board W.Sink A.behaviour form_in_use hosts.items seed
+        (IsOfScript WithoutBoard hosts.items (S.left source.old))
+        board result.1 sink.old sink.new stores result.0) }
+    // where the source tells a script, and nothing fails, logs are written, unless there is no memory
+    ensures complete { AreRaceWords words.now → (text : List ℕ) (script : List Line)
+        → IsReadable (S.left source.old) text (S.failures source.old) (S.failures source.new)
         → IsText WithoutBoard hosts.items text script
-        → IsRaced result.0 ⊎ (result.0 ≡ Status.NoMemory) }
-    ensures bad_words { (result.0 ≡ Status.BadWords) ↔ ¬ AreRaceWords words.now }
-    ensures bad_line { (n : ℕ) → result.0 ≡ Status.BadLine n
-        → IsBadAt WithoutBoard hosts.items (S.left source.old) n × IsAtEnd (S.left source.new) }
-    ensures each_bad_line { (text : List ℕ) (n : ℕ)
-        → IsReadable (AreRaceWords words.now) (S.left source.old) text (S.failures source.old)
-        (S.failures source.new)
-        → IsBadText WithoutBoard hosts.items text n
-        → (result.0 ≡ Status.BadLine n) ⊎ (result.0 ≡ Status.NoMemory) }
-    ensures too_long { result.0 ≡ Status.TooLong
-        → HasMoreThan MAX_SCRIPT_BYTES (S.left source.old) }
-    ensures each_too_long { (text : List ℕ)
-        → IsTooMuch (AreRaceWords words.now) (S.left source.old) text (S.failures source.old)
-        (S.failures source.new)
-        → (result.0 ≡ Status.TooLong) ⊎ (result.0 ≡ Status.NoMemory) }
-    ensures read_fault { result.0 ≡ Status.ReadFault
-        → Rose (S.failures source.old) (S.failures source.new) }
-    ensures write_fault { result.0 ≡ Status.WriteFault
-        → Rose (W.failures sink.old) (W.failures sink.new) }
-    // what is read, and what is left alone
-    ensures done { IsRaced result.0 → IsAtEnd (S.left source.new) }
-    ensures consumed { ConsumesWithin (MAX_SCRIPT_BYTES + 1)
-        (S.left source.old) (S.left source.new) }
-    ensures unfailed { result.0 ≡ Status.TooLong → S.failures source.new ≡ S.failures source.old }
-    ensures unread { ¬ AreRaceWords words.now → source.new ≡ source.old }
-    ensures unwritten { IsUnraced result.0 → sink.new ≡ sink.old }
-    ensures unused { IsUnrun result.0 → result.1 ≡ board }
+        → ¬ Rose (W.failures sink.old) (W.failures sink.new)
+        → ¬ Rose (B.view board).state.faults (B.view result.1).state.faults
+        → OnSound B.Board form_in_use (length hosts.items) board (λ stores.
+        IsRaced result.0 ⊎ (result.0 ≡ Status.NoMemory)) }
 {
     if !are_race_words(words) {
         return (Status::BadWords, board);

@@ -6,22 +6,21 @@ mod check;
 mod command;
 mod kept;
 mod listing;
-mod racing;
 mod texts;
 mod why;
 mod words;
 
-use crate::blank::{BLANK_SEED, run_blank};
+use crate::blank::{BLANK_SEED, blank_board};
 use crate::check::check_script;
 use crate::command::{Asked, asked_for, without_explain};
 use crate::kept::KeptSource;
 use crate::listing::host_lines;
-use crate::racing::race_blank;
 use crate::why::{Ended, with_file_reason, with_reason};
 use board::Board;
 use boards::{FileBoard, FileBoardFailed};
 use sample_apps::sample_hosts;
 use script::Dialect;
+use shared_tee::OpenGate;
 use std::alloc::Global;
 use std::io;
 use std::io::IsTerminal;
@@ -30,7 +29,7 @@ use std::string::String;
 use std::sync::Wait;
 use std::thread::Threads;
 use tee_base::{Bytes, StdSink, StdSource};
-use tee_top::{Status, run_tee, status_line};
+use tee_top::{Status, race_tee, run_tee, status_line};
 
 /// The status, with why a run ended so where that is asked for: then the dialect is what was taken of the grammar. The text is what
 /// was read, as far as it is known.
@@ -70,18 +69,10 @@ fn run_over<B: Board + Drop>(
 /// Runs the words over a blank board in memory.
 #[inline(never)]
 fn run_in_memory(rt: &HostRuntime, alloc: Global, words: &[String], explains: bool) -> Ended {
-    let Ok(hosts) = sample_hosts(alloc) else {
-        return Ended::plain(Status::NoMemory);
-    };
-    let mut source = KeptSource::new(alloc, StdSource::new(rt.stdin()), explains);
-    let mut sink = StdSink::new(io::writer(rt));
-    let status = run_blank(alloc, words, &mut source, &mut sink, hosts, BLANK_SEED);
-    ended(
-        alloc,
-        status,
-        source.kept(),
-        explains.then_some(Dialect::Whole),
-    )
+    match blank_board(alloc) {
+        Ok(board) => run_over(rt, alloc, words, (board, BLANK_SEED), explains),
+        Err(_) => Ended::plain(Status::NoMemory),
+    }
 }
 
 /// Races the script over a blank board in memory.
@@ -96,16 +87,21 @@ fn race_in_memory<R: Threads + Wait + Sync>(
     let Ok(hosts) = sample_hosts(alloc) else {
         return Ended::plain(Status::NoMemory);
     };
+    let Ok(board) = blank_board(alloc) else {
+        return Ended::plain(Status::NoMemory);
+    };
     let mut source = KeptSource::new(alloc, StdSource::new(rt.stdin()), explains);
     let mut sink = StdSink::new(io::writer(rt));
-    let status = race_blank(
+    let (status, _board) = race_tee(
         threads,
         alloc,
         words,
         &mut source,
         &mut sink,
+        board,
         hosts,
         BLANK_SEED,
+        &OpenGate,
     );
     ended(
         alloc,

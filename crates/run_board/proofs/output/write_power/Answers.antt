@@ -1,19 +1,19 @@
-use Rattle.std.proofs.Common.{◌≡◌, ◌∙◌, ap, subst}
-use Rattle.std.specs.Io.KnownBytes.{Appends}
-use Rattle.std.proofs.lemmas.Result.{on_err_weaker, on_ok_weaker}
-use Rattle.tee_base.specs.Transfer.{AppendsFront}
+use Rattle.std.proofs.Common.{◌≡◌, ◌∙◌, ap, arith, subst}
+use Rattle.std.proofs.lemmas.Result.{err_from_is_err_and}
 use Rattle.report.specs.Texts.{power_text}
 use Rattle.run_board.specs.Transcript.{power_line}
+use Rattle.run_board.specs.Writing.{Writes}
+use Rattle.run_board.proofs.Writes.{writes_none}
+use Rattle.run_board.proofs.Writing.{front_none}
 use Rattle.run_board.proofs.output.write_power.Goals as goal
 
-pub returns-clause-ok : goal.returns-clause-ok
-returns-clause-ok g c =
-    let line : c.as_slice.result.now ≡ power_line c.args.names.now c.args.told =
-    c.as_slice.ensures ∙ c.in_ok-line.ensures ∙ ap (λ name. power_text name c.args.told) c.owner_name.ensures in
-    on_ok_weaker c.write_bytes.result (λ h. subst (λ text. Appends (g.W.Sink.written c.args.sink.now) (g.W.Sink.written c.write_bytes.new.sink) text) line h) c.write_bytes.ensures.ok
+pub returns-in_err-line : goal.returns-in_err-line
+returns-in_err-line g c =
+    let stop = err_from_is_err_and c.from_residual.result c.from_residual.ensures.1 in
+    rw (stop.1, stop.2) (writes_none g.W.Sink _ c.args.sink.now c.args.sink.now (front_none _ _) (omega arith))
 
-pub returns-clause-err : goal.returns-clause-err
-returns-clause-err g c =
+pub returns : goal.returns
+returns g c =
     let line : c.as_slice.result.now ≡ power_line c.args.names.now c.args.told =
     c.as_slice.ensures ∙ c.in_ok-line.ensures ∙ ap (λ name. power_text name c.args.told) c.owner_name.ensures in
-    on_err_weaker c.write_bytes.result (λ h. subst (λ text. AppendsFront text (g.W.Sink.written c.args.sink.now) (g.W.Sink.written c.write_bytes.new.sink)) line h) c.write_bytes.ensures.err
+    subst (λ text. Writes g.W.Sink text c.write_bytes.result c.args.sink.now c.write_bytes.new.sink) line c.write_bytes.ensures
