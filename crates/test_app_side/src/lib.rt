@@ -2,8 +2,7 @@
 //! outside.
 #![tactic(auto)]
 
-#[cfg(test)]
-mod player;
+pub mod player;
 #[cfg(test)]
 mod rows;
 #[cfg(test)]
