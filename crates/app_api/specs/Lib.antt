@@ -1,4 +1,5 @@
 pub mod Behaviours
+pub mod Logins
 pub mod Outs
 pub mod Params
 pub mod Hosts

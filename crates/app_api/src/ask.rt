@@ -56,6 +56,8 @@ pub enum Ask {
     CancelMask,
     /// `TEE_UnmaskCancellation`.
     CancelUnmask,
+    /// `TEE_GetPropertyAsIdentity` of `gpd.client.identity`.
+    ClientIdentity,
     /// `TEE_GenerateRandom`.
     Random {
         count: u32,
@@ -245,6 +247,37 @@ pub enum Ask {
         bytes: Bytes,
         room: u32,
     },
+    /// `TEE_AEInit`.
+    AeInit {
+        op: u32,
+        nonce: Bytes,
+        tag_bits: u32,
+    },
+    /// `TEE_AEUpdateAAD`.
+    AeAad {
+        op: u32,
+        bytes: Bytes,
+    },
+    /// `TEE_AEUpdate`.
+    AeUpdate {
+        op: u32,
+        bytes: Bytes,
+        room: u32,
+    },
+    /// `TEE_AEEncryptFinal`.
+    AeSeal {
+        op: u32,
+        bytes: Bytes,
+        room: u32,
+        tag_room: u32,
+    },
+    /// `TEE_AEDecryptFinal`.
+    AeOpen {
+        op: u32,
+        bytes: Bytes,
+        room: u32,
+        tag: Bytes,
+    },
 }
 
 impl fmt::Debug for Ask {
@@ -286,6 +319,16 @@ pub enum Answer {
         max_bits: u32,
         key_bits: u32,
         active: bool,
+    },
+    /// Who the client is: the number of its login, and the identifier.
+    Identity {
+        login: u32,
+        id: [u8; 16],
+    },
+    /// The last bytes of a ciphertext, and the tag.
+    Sealed {
+        content: Bytes,
+        tag: Bytes,
     },
 }
 

@@ -1,5 +1,6 @@
 //! What a client asks for.
 
+use crate::login::Login;
 use crate::param::Params;
 
 /// A client's call (TEE Client API 1.0, sections 4.5.5 to 4.5.7). A label is the client's own name for a session.
@@ -9,6 +10,7 @@ pub enum Call {
     /// `TEEC_OpenSession`.
     Open {
         label: u32,
+        login: Login,
         params: Params,
     },
     /// `TEEC_InvokeCommand`.

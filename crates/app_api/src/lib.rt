@@ -5,6 +5,7 @@ mod application;
 mod ask;
 mod call;
 mod host;
+mod login;
 mod out;
 mod param;
 
@@ -12,5 +13,6 @@ pub use application::Application;
 pub use ask::{Answer, Ask, Entry, Given};
 pub use call::Call;
 pub use host::{Host, Properties, hosts_fit};
+pub use login::Login;
 pub use out::{Out, Outs};
 pub use param::{Param, Params, TooLarge};

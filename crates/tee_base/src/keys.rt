@@ -29,6 +29,10 @@ pub const AES_CBC: u32 = 0x1000_0110;
 
 pub const AES_CTR: u32 = 0x1000_0210;
 
+pub const AES_GCM: u32 = 0x4000_0810;
+
+pub const AES_CMAC: u32 = 0x3000_0610;
+
 pub const HMAC_SHA256: u32 = 0x3000_0004;
 
 pub const HMAC_SHA384: u32 = 0x3000_0005;
