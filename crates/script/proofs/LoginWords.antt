@@ -12,7 +12,7 @@ use Rattle.uuid.specs.Text.{by_index, byte_of_digits, digit_place, digits_of, ha
 use Rattle.uuid.proofs.RoundTrips.{parses_hyphenated}
 use Rattle.uuid.proofs.TextLemmas.{by_index_length, nibble_small}
 use Rattle.app_api.specs.declared.login.Login.{Login}
-use Rattle.app_api.specs.declared.login.Login.TheVariants.{Public, User, Group, App}
+use Rattle.app_api.specs.declared.login.Login.TheVariants.{User, Group, App}
 use Rattle.app_api.specs.declared.param.Param.{Param}
 use Rattle.app_api.specs.declared.param.Param.TheVariants.{Nothing, ValueIn, ValueOut, ValueInOut, MemIn, MemOut, MemInOut}
 use Rattle.script.specs.Grammar.{IsLogin}
