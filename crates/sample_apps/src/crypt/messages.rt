@@ -279,6 +279,16 @@ impl Crypt {
         self.succeed(at_p2(Out::Mem(bytes)))
     }
 
+    /// The next message begins after a tag that was another.
+    fn refuse_tag(&mut self, beginning: Option<Ask>, code: Code) -> Ask
+        ensures { ask_for self.new result ≡ rows.next_refused self.old beginning code }
+    {
+        match beginning {
+            Some(ask) => self.wait_for(Waiting::Judging { code }, ask),
+            None => self.fail(code),
+        }
+    }
+
     /// The beginning is the ask that begins the next message.
     #[tactic(auto, unfolding(crate::specs::CryptMessages::after_open))]
     pub fn after_open(&mut self, beginning: Option<Ask>, answer: Answer) -> Ask
@@ -293,15 +303,14 @@ impl Crypt {
                 drop(beginning);
                 self.return_with(Code::SHORT_BUFFER, at_p2(Out::Size(size)))
             }
-            Answer::Refused(code) => match beginning {
-                Some(ask) if code.0 == Code::MAC_INVALID.0 => {
-                    self.wait_for(Waiting::Judging { code }, ask)
-                }
-                other => {
-                    drop(other);
+            Answer::Refused(code) => {
+                if code.0 == Code::MAC_INVALID.0 {
+                    self.refuse_tag(beginning, code)
+                } else {
+                    drop(beginning);
                     self.fail(code)
                 }
-            },
+            }
             other => {
                 drop(beginning);
                 drop(other);
