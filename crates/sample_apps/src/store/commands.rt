@@ -339,7 +339,8 @@ fn draw_random(params: &Params) -> Reaction<Store>
 /// Who the client is.
 #[tactic(auto, unfolding(crate::specs::StoreCommands::identify_client))]
 fn identify_client(params: &Params) -> Reaction<Store>
-    ensures { result ≡ rows.identify_client params.now.p0 params.now.p1 params.now.p2 params.now.p3 }
+    ensures { result
+        ≡ rows.identify_client params.now.p0 params.now.p1 params.now.p2 params.now.p3 }
 {
     match *params {
         Params {
