@@ -37,5 +37,5 @@ module _ {A : Type 0} (P : ℕ → ℕ → Option Store → Type 0) where
     dead_gone = λ m session same. same;
     waits = λ m client i session call same. same;
     closes = λ m client i session call same. same;
-    opens = λ m client label a call same. same;
+    opens = λ m client label login a call same. same;
   }

@@ -84,7 +84,8 @@ module _ {A : Type 0} where
     dead_gone = λ m session few. omega (arith, few);
     waits = λ m client i session call few. omega (arith, few, submitted_length m.queue client i session call);
     closes = λ m client i session call few. omega (arith, few, submitted_length m.queue client i session call);
-    opens = λ m client label a call few. omega (arith, few, submitted_length m.queue client a.instance a.session call, entered_length a.new_instance m.instances (new_instance m.template a.instance));
+    opens = λ m client label login a call few.
+        omega (arith, few, submitted_length m.queue client a.instance a.session call, entered_length a.new_instance m.instances (new_instance m.template a.instance));
   }
 
   pub step_few : (behaviour : Behaviour A) (m : Machine A) (event : Event) → live (step behaviour m event).machine ≤ live m + born_of event

@@ -7,6 +7,7 @@ use Rattle.tee_base.specs.declared.codes.Origin.{Origin}
 use Rattle.tee_base.specs.declared.codes.Origin.TheVariants.{Api, Tee}
 use Rattle.app_api.specs.declared.call.Call.{Call}
 use Rattle.app_api.specs.declared.call.Call.TheVariants as calls
+use Rattle.app_api.specs.declared.login.Login.{Login}
 use Rattle.app_api.specs.declared.param.Params.{Params}
 use Rattle.app_api.specs.Params.{first_oversized}
 use Rattle.instances.specs.declared.instances.Admission.{Admission}
@@ -60,17 +61,17 @@ module _ {A : Type 0} where
         owner = each_more (IsOf m.queue.next i) m.queue.operations o (none_next m.queue i old) (λ _. refl);
       }
 
-  opens : (m : Machine A) (client label : ℕ) (ps : Params) → IsSoundMachine m → is_full m.queue ≡ false → (r : Result Admission Refusal)
-      → admission_of m.table client label ≡ r → IsCalled m.queue.next (opened_as m client label ps r)
-  opens m client label ps h free (Err refusal) e = at_once m m.table refusal.code refusal.origin h
-  opens m client label ps h free (Ok a) e =
-      let after = after_admission m client label a in
-      waits m after.table after.instances client a.instance a.session (calls.Open label ps) h.queue (sound_open m.template m.queue m.table m.instances client label ps a h free e)
+  opens : (m : Machine A) (client label : ℕ) (login : Login) (ps : Params) → IsSoundMachine m → is_full m.queue ≡ false → (r : Result Admission Refusal)
+      → admission_of m.table client label ≡ r → IsCalled m.queue.next (opened_as m client label login ps r)
+  opens m client label login ps h free (Err refusal) e = at_once m m.table refusal.code refusal.origin h
+  opens m client label login ps h free (Ok a) e =
+      let after = after_admission m client label login a in
+      waits m after.table after.instances client a.instance a.session (calls.Open label login ps) h.queue (sound_open m.template m.queue m.table m.instances client label login ps a h free e)
 
-  takes_open : (m : Machine A) (client label : ℕ) (ps : Params) → IsSoundMachine m → IsCalled m.queue.next (called_open m client label ps)
-  takes_open m client label ps h =
+  takes_open : (m : Machine A) (client label : ℕ) (login : Login) (ps : Params) → IsSoundMachine m → IsCalled m.queue.next (called_open m client label login ps)
+  takes_open m client label login ps h =
       let P : Stepped A → Type 0 = IsCalled m.queue.next in
-      let last = opened_as m client label ps (admission_of m.table client label) in
+      let last = opened_as m client label login ps (admission_of m.table client label) in
       let third = cond (is_full m.queue) (answered_at_once m BUSY Tee) last in
       let second = cond (is_some (facts_of_label m client label)) (answered_at_once m BAD_STATE Api) third in
       cond_both (is_some (first_oversized ps)) (answered_at_once m BAD_PARAMETERS Api) second P
@@ -79,7 +80,7 @@ module _ {A : Type 0} where
       (λ _. at_once m m.table BAD_STATE Api h)
       (λ _. cond_both (is_full m.queue) (answered_at_once m BUSY Tee) last P
       (λ _. at_once m m.table BUSY Tee h)
-      (λ free. opens m client label ps h free (admission_of m.table client label) refl)))
+      (λ free. opens m client label login ps h free (admission_of m.table client label) refl)))
 
   invokes : (m : Machine A) (client label command : ℕ) (ps : Params) (s : Session) → IsSoundMachine m → session_of m.table client label ≡ Some s
       → (state : SessionState) → s.state ≡ state → IsCalled m.queue.next (invoked_at m client (calls.Invoke label command ps) (facts_of s) state)
@@ -114,7 +115,7 @@ module _ {A : Type 0} where
 
   pub takes : (m : Machine A) (client : ℕ) (call : Call) → IsSoundMachine m → IsCalled m.queue.next (after_call m client call)
   unfolding after_call
-  takes m client (calls.Open label ps) h = takes_open m client label ps h
+  takes m client (calls.Open label login ps) h = takes_open m client label login ps h
   takes m client (calls.Invoke label command ps) h =
       cond_both (is_some (first_oversized ps)) (answered_at_once m BAD_PARAMETERS Api) (invoked_in m client (calls.Invoke label command ps) (facts_of_label m client label)) (IsCalled m.queue.next)
       (λ _. at_once m m.table BAD_PARAMETERS Api h)

@@ -2,6 +2,7 @@
 use Rattle.std.proofs.Common.{ℕ, ◌≡◌, ◌+◌, ◌*◌, ◌≤◌, ◌<◌, ◌==◌, ◌&&◌, Bool, true, false, not, cond, List, [], ◌∷◌, ◌++◌, find}
 use Rattle.std.proofs.Common.{filter, map, length, Option, None, Some, refl, sym, ap, ◌∙◌, ⊎_elim, arith}
 use Rattle.std.proofs.lemmas.Bool.{cases_Bool, cond_both, eqb-true}
+use Rattle.app_api.specs.declared.login.Login.{Login}
 use Rattle.instances.specs.declared.instances.Admission.{Admission}
 use Rattle.instances.specs.declared.session.Session.{Session}
 use Rattle.instances.specs.declared.session.Slot.{Slot}
@@ -236,11 +237,12 @@ endings_entered : (b : Bool) (slots : List Slot) (slot : Slot) (i : ℕ) → end
 endings_entered true slots slot i = omega (arith, total_push (λ (s : Slot). bit (ends_at i s)) slots slot)
 endings_entered false slots slot i = omega arith
 
-pub calm_entered : {A : Type 0} (template : A) (t : Table) (xs : List (Instance A)) (client label : ℕ) (a : Admission) → IsCalm t xs → length t.sessions < 8 → endings a.instance t.slots ≡ 0
-    → (t.properties.single ≡ false → counting a.instance t.sessions ≡ 0) → IsCalm (with_session t client label a) (cond a.new_instance (xs ++ new_instance template a.instance ∷ []) xs)
-calm_entered {A} template t xs client label a h room free lone =
+pub calm_entered : {A : Type 0} (template : A) (t : Table) (xs : List (Instance A)) (client label : ℕ) (login : Login) (a : Admission)
+    → IsCalm t xs → length t.sessions < 8 → endings a.instance t.slots ≡ 0
+    → (t.properties.single ≡ false → counting a.instance t.sessions ≡ 0) → IsCalm (with_session t client label login a) (cond a.new_instance (xs ++ new_instance template a.instance ∷ []) xs)
+calm_entered {A} template t xs client label login a h room free lone =
     let n = a.instance in
-    let session : Session = record { client = client; label = label; number = a.session; instance = n; state = Opening } in
+    let session : Session = record { client = client; label = label; number = a.session; instance = n; state = Opening; login = login } in
     let slot : Slot = record { number = n; ending = false } in
     let more : (i : ℕ) → counting i (t.sessions ++ session ∷ []) ≡ counting i t.sessions + bit ((n == i) && true) = λ i. total_push
     (λ (s : Session). bit (counts_in i (facts_of s))) t.sessions session in

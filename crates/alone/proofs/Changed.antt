@@ -93,24 +93,24 @@ started_more f q os o e once =
     omega (arith, mapped, parts, total_le_each (λ x. f (as_running n x)) (λ x. f x + cond (x.number == n) c 0) os each, total_once operation_number n c os once)
 
 first_claim : (created : Bool) (i op session : ℕ) (call : Call) → claim_of_entry i (Some (first_entry created op session call)) ≡ claim_of_call session i call
-first_claim false i op session (calls.Open label ps) = refl
-first_claim true i op session (calls.Open label ps) = refl
+first_claim false i op session (calls.Open label login ps) = refl
+first_claim true i op session (calls.Open label login ps) = refl
 first_claim false i op session (calls.Invoke label command ps) = refl
 first_claim true i op session (calls.Invoke label command ps) = refl
 first_claim false i op session (calls.Close label) = refl
 first_claim true i op session (calls.Close label) = refl
 
 first_weight : (created : Bool) (p : Run → Bool) (i op session : ℕ) (call : Call) → weigh_entry p i (Some (first_entry created op session call)) ≡ bit (p (run op i (is_close_call call)))
-first_weight false p i op session (calls.Open label ps) = refl
-first_weight true p i op session (calls.Open label ps) = refl
+first_weight false p i op session (calls.Open label login ps) = refl
+first_weight true p i op session (calls.Open label login ps) = refl
 first_weight false p i op session (calls.Invoke label command ps) = refl
 first_weight true p i op session (calls.Invoke label command ps) = refl
 first_weight false p i op session (calls.Close label) = refl
 first_weight true p i op session (calls.Close label) = refl
 
 first_stays : (created : Bool) (op session : ℕ) (call : Call) → destroys (Some (first_entry created op session call)) ≡ false
-first_stays false op session (calls.Open label ps) = refl
-first_stays true op session (calls.Open label ps) = refl
+first_stays false op session (calls.Open label login ps) = refl
+first_stays true op session (calls.Open label login ps) = refl
 first_stays false op session (calls.Invoke label command ps) = refl
 first_stays true op session (calls.Invoke label command ps) = refl
 first_stays false op session (calls.Close label) = refl

@@ -41,7 +41,7 @@ stopping c = c.close
 
 -- a close that waits holds its session
 close_holds : (op session i : ℕ) (progress : Progress) → bit (is_close progress) ≤ weigh closing (claim_of_progress session i progress) + weigh stopping (run_of_progress op i progress)
-close_holds op session i (Waiting (calls.Open label ps)) = omega arith
+close_holds op session i (Waiting (calls.Open label login ps)) = omega arith
 close_holds op session i (Waiting (calls.Invoke label command ps)) = omega arith
 close_holds op session i (Waiting (calls.Close label)) = omega arith
 close_holds op session i (Runs close cancelled masked) = omega arith

@@ -134,6 +134,7 @@ module _ {A : Type 0} (P : Machine A → Type 0) (k : IsKept P) where
   entry_kept m r asked.CancelFlag h = h
   entry_kept m r asked.CancelMask h = mask_kept m r true r.op refl h
   entry_kept m r asked.CancelUnmask h = mask_kept m r false r.op refl h
+  entry_kept m r asked.ClientIdentity h = h
   entry_kept m r ask h = tt
 
   -- ---- operations, and keys that are made

@@ -3,6 +3,7 @@ use Rattle.std.proofs.Common.{ℕ, Bool, cond, Option, None, Some, is_some, Resu
 use Rattle.std.proofs.lemmas.Bool.{cond_both}
 use Rattle.app_api.specs.declared.call.Call.{Call}
 use Rattle.app_api.specs.declared.call.Call.TheVariants as calls
+use Rattle.app_api.specs.declared.login.Login.{Login}
 use Rattle.app_api.specs.declared.param.Params.{Params}
 use Rattle.app_api.specs.Params.{first_oversized}
 use Rattle.instances.specs.declared.instances.Admission.{Admission}
@@ -21,7 +22,8 @@ pub record IsKeptByCalls {A : Type 0} (P Q : Machine A → Type 0) : Type 0 wher
   pub dead_gone : (m : Machine A) (session : ℕ) → P m → Q (record m { queue = with_number_used m.queue; table = session_removed m.table session })
   pub waits : (m : Machine A) (client i session : ℕ) (call : Call) → P m → Q (record m { queue = with_operation m.queue client i session call })
   pub closes : (m : Machine A) (client i session : ℕ) (call : Call) → P m → Q (record m { queue = with_operation m.queue client i session call; table = state_set m.table session Closing })
-  pub opens : (m : Machine A) (client label : ℕ) (a : Admission) (call : Call) → P m → Q (record (after_admission m client label a) { queue = with_operation m.queue client a.instance a.session call })
+  pub opens : (m : Machine A) (client label : ℕ) (login : Login) (a : Admission) (call : Call) → P m
+      → Q (record (after_admission m client label login a) { queue = with_operation m.queue client a.instance a.session call })
 
 module _ {A : Type 0} (P Q : Machine A → Type 0) (k : IsKeptByCalls P Q) where
   abbrev Ends : Stepped A → Type 0
@@ -30,9 +32,9 @@ module _ {A : Type 0} (P Q : Machine A → Type 0) (k : IsKeptByCalls P Q) where
   either : (b : Bool) (x y : Stepped A) → Ends x → Ends y → Ends (cond b x y)
   either b x y here there = cond_both b x y Ends (λ _. here) (λ _. there)
 
-  opened_kept : (m : Machine A) (client label : ℕ) (ps : Params) (r : Result Admission Refusal) → P m → Ends (opened_as m client label ps r)
-  opened_kept m client label ps (Ok a) h = k.opens m client label a (calls.Open label ps) h
-  opened_kept m client label ps (Err refusal) h = k.at_once m h
+  opened_kept : (m : Machine A) (client label : ℕ) (login : Login) (ps : Params) (r : Result Admission Refusal) → P m → Ends (opened_as m client label login ps r)
+  opened_kept m client label login ps (Ok a) h = k.opens m client label login a (calls.Open label login ps) h
+  opened_kept m client label login ps (Err refusal) h = k.at_once m h
 
   invoked_at_kept : (m : Machine A) (client : ℕ) (call : Call) (s : SessionFacts) (state : SessionState) → P m → Ends (invoked_at m client call s state)
   invoked_at_kept m client call s Opening h = k.at_once m h
@@ -56,9 +58,9 @@ module _ {A : Type 0} (P Q : Machine A → Type 0) (k : IsKeptByCalls P Q) where
 
   pub called_kept : (m : Machine A) (client : ℕ) (call : Call) → P m → Ends (after_call m client call)
   unfolding after_call
-  called_kept m client (calls.Open label ps) h =
+  called_kept m client (calls.Open label login ps) h =
       either (is_some (first_oversized ps)) _ _ (k.at_once m h)
-      (either (is_some (facts_of_label m client label)) _ _ (k.at_once m h) (either (is_full m.queue) _ _ (k.at_once m h) (opened_kept m client label ps (admission_of m.table client label) h)))
+      (either (is_some (facts_of_label m client label)) _ _ (k.at_once m h) (either (is_full m.queue) _ _ (k.at_once m h) (opened_kept m client label login ps (admission_of m.table client label) h)))
   called_kept m client (calls.Invoke label command ps) h =
       either (is_some (first_oversized ps)) _ _ (k.at_once m h) (invoked_kept m client (calls.Invoke label command ps) (facts_of_label m client label) h)
   called_kept m client (calls.Close label) h = closed_kept m client label (facts_of_label m client label) h

@@ -6,6 +6,7 @@ use Rattle.std.proofs.lemmas.Bool.{cases_Bool, cond_both, both_ways, eqb-true, a
 use Rattle.std.proofs.lemmas.Map.Views.{Contains-from_any}
 use Rattle.app_api.specs.declared.call.Call.{Call}
 use Rattle.app_api.specs.declared.call.Call.TheVariants as calls
+use Rattle.app_api.specs.declared.login.Login.{Login}
 use Rattle.app_api.specs.declared.param.Params.{Params}
 use Rattle.tee_base.specs.Numbers.{lowest_free}
 use Rattle.tee_base.specs.declared.limits.TheConstants.{MAX_INSTANCES, MAX_SESSIONS}
@@ -223,21 +224,21 @@ slot_entered false slots slot h = ⊎_elim (λ (never : false ≡ true). absurd 
     (λ (there : (false ≡ false) × (list_any (nat_eq slot.number) (map (λ s. s.number) slots) ≡ true)). there.1) h
 
 -- an open waits, where it was admitted
-pub sound_open : {A : Type 0} (template : A) (q : Queue) (t : Table) (xs : List (Instance A)) (client label : ℕ) (ps : Params) (a : Admission) → IsSound q t xs
+pub sound_open : {A : Type 0} (template : A) (q : Queue) (t : Table) (xs : List (Instance A)) (client label : ℕ) (login : Login) (ps : Params) (a : Admission) → IsSound q t xs
     → is_full q ≡ false → admission_of t client label ≡ Ok a
-    → IsSound (with_operation q client a.instance a.session (calls.Open label ps)) (with_session t client label a) (cond a.new_instance (xs ++ new_instance template a.instance ∷ []) xs)
-sound_open {A} template q t xs client label ps a h free e =
+    → IsSound (with_operation q client a.instance a.session (calls.Open label login ps)) (with_session t client label login a) (cond a.new_instance (xs ++ new_instance template a.instance ∷ []) xs)
+sound_open {A} template q t xs client label login ps a h free e =
     let to : IsTo t a = subst (λ (r : Result Admission Refusal). IfOk r (IsTo t)) e (some_IsTo t client label h.table) in
     let slot : Slot = record { number = a.instance; ending = false } in
     let new : Instance A = new_instance template a.instance in
-    let session : Session = record { client = client; label = label; number = a.session; instance = a.instance; state = Opening } in
+    let session : Session = record { client = client; label = label; number = a.session; instance = a.instance; state = Opening; login = login } in
     let ys : List (Instance A) = cond a.new_instance (xs ++ new ∷ []) xs in
-    let after : Table = with_session t client label a in
+    let after : Table = with_session t client label login a in
     let stay : (k : ℕ) → HasSlot t k → HasSlot after k = λ k here. slots_entered a.new_instance k t.slots slot here in
     let there : HasSlot after a.instance = slot_entered a.new_instance t.slots slot to.place in
     let admitted = admission_IsAdmitted t client label a e in
-    sound_queued q t after xs ys client a.instance a.session (calls.Open label ps) h (ap (λ b. b && true) free) (λ never. absurd (both_ways _ refl never))
-    (entered_IsTable t client label a h.table admitted)
+    sound_queued q t after xs ys client a.instance a.session (calls.Open label login ps) h (ap (λ b. b && true) free) (λ never. absurd (both_ways _ refl never))
+    (entered_IsTable t client label login a h.table admitted)
     (numbers_entered a.new_instance xs t.slots new slot h.numbers refl)
     (each_more (λ s. is_dead s.state ≡ false → HasSlot after s.instance) t.sessions session
     (each_weaker (λ s. is_dead s.state ≡ false → HasSlot t s.instance) (λ s. is_dead s.state ≡ false → HasSlot after s.instance) t.sessions (λ s here alive. stay s.instance (here alive)) h.sessions)
@@ -245,4 +246,4 @@ sound_open {A} template q t xs client label ps a h free e =
     stay there
     (λ p. omega (arith, h.held p, total_entered (λ x. weigh p (claim_in x)) a.new_instance xs new refl, total_push (λ s. bit (p (facts_of s))) t.sessions session))
     (λ p. omega (arith, total_entered (λ x. weigh_in p x) a.new_instance xs new refl))
-    (calm_entered template t xs client label a h.calm admitted.room to.free (λ many. none_counts t a.instance t.sessions h.sessions (to.lone many)))
+    (calm_entered template t xs client label login a h.calm admitted.room to.free (λ many. none_counts t a.instance t.sessions h.sessions (to.lone many)))

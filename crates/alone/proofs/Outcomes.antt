@@ -90,6 +90,7 @@ module _ {A : Type 0} (m : Machine A) (made : ℕ) where
   entry_like r asked.CancelFlag few = record { few = few; queue = within_same m.queue; table = refl; instances = refl }
   entry_like r asked.CancelMask few = mask_like r true few
   entry_like r asked.CancelUnmask few = mask_like r false few
+  entry_like r asked.ClientIdentity few = record { few = few; queue = within_same m.queue; table = refl; instances = refl }
   entry_like r ask few = tt
 
   family_like : (i : ℕ) (r : ActiveEntry) (ask : Ask) (family : Family) → made < MAX_ASKS → ResolutionLike m made (resolution_in_family family m i r ask)

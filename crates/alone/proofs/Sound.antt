@@ -35,7 +35,7 @@ facts session instance state = record { session = session; instance = instance; 
 
 -- what a call holds that waits
 abbrev pub claim_of_call : ℕ → ℕ → Call → Option SessionFacts
-claim_of_call session i (calls.Open label ps) = Some (facts session i Opening)
+claim_of_call session i (calls.Open label login ps) = Some (facts session i Opening)
 claim_of_call session i (calls.Invoke label command ps) = None
 claim_of_call session i (calls.Close label) = Some (facts session i Closing)
 
@@ -220,7 +220,7 @@ pub record Fits (session i : ℕ) (c : SessionFacts) : Type 0 where
   pub state : is_held c.state ≡ true
 
 call_fits : (session i : ℕ) (call : Call) → IfSome (claim_of_call session i call) (Fits session i)
-call_fits session i (calls.Open label ps) = record { session_same = refl; instance_same = refl; state = refl }
+call_fits session i (calls.Open label login ps) = record { session_same = refl; instance_same = refl; state = refl }
 call_fits session i (calls.Invoke label command ps) = tt
 call_fits session i (calls.Close label) = record { session_same = refl; instance_same = refl; state = refl }
 

@@ -39,7 +39,7 @@ module _ {A : Type 0} where
     dead_gone = λ m session same. same;
     waits = λ m client i session call same. same;
     closes = λ m client i session call same. same;
-    opens = λ m client label a call same. same;
+    opens = λ m client label login a call same. same;
   }
 
   pub call_leaves_storage : (m : Machine A) (client : ℕ) (call : Call) → StorageStays m (after_call m client call).machine

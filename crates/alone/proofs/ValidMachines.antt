@@ -103,7 +103,7 @@ module _ {A : Type 0} where
     dead_gone = λ m session fine. fine;
     waits = λ m client i session call fine. fine;
     closes = λ m client i session call fine. fine;
-    opens = λ m client label a call fine.
+    opens = λ m client label login a call fine.
         over_instances m _ _ fine (numbers_entered a.new_instance m.instances m.table.slots (new_instance m.template a.instance) (record { number = a.instance; ending = false }) fine.instances refl);
   }
 

@@ -187,6 +187,11 @@ module _ {A : Type 0} (store : Store) where
   resolution_alike m i r (asked.MacCompare op bytes mac) e = operated_alike m i _
   resolution_alike m i r (asked.DigestUpdate op bytes) e = operated_alike m i _
   resolution_alike m i r (asked.DigestFinal op bytes room) e = operated_alike m i _
+  resolution_alike m i r (asked.AeInit op nonce tag_bits) e = operated_alike m i _
+  resolution_alike m i r (asked.AeAad op bytes) e = operated_alike m i _
+  resolution_alike m i r (asked.AeUpdate op bytes room) e = operated_alike m i _
+  resolution_alike m i r (asked.AeSeal op bytes room tag_room) e = operated_alike m i _
+  resolution_alike m i r (asked.AeOpen op bytes room tag) e = operated_alike m i _
   resolution_alike m i r (asked.KeyGenerate object bits) e = generated_alike m i object bits
   resolution_alike m i r ask e = record { same = refl; settles = refl }
 

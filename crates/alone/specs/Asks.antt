@@ -1,12 +1,16 @@
--- What comes of an ask of an instance: of a return, of an ask about cancellation, or of one of another family (TEE Internal Core API
--- 1.3, sections 4.3, 4.8, 4.10, 5.7 and 5.9).
+-- What comes of an ask of an instance: of a return, of an ask about cancellation or the client, or of one of another family (TEE
+-- Internal Core API 1.3, sections 4.3, 4.7, 4.8, 4.10, 5.7 and 5.9).
 use Rattle.std.specs.Prelude.{ℕ, Bool, true, false, nat_le, Option, None, Some, if◌then◌else◌}
 use Rattle.tee_base.specs.declared.codes.Code.{Code}
-use Rattle.tee_base.specs.declared.codes.TheConstants.Code.{CANCEL}
+use Rattle.tee_base.specs.declared.codes.TheConstants.Code.{CANCEL, ITEM_NOT_FOUND}
 use Rattle.tee_base.specs.declared.limits.TheConstants.{MAX_ASKS}
 use Rattle.app_api.specs.declared.ask.Ask.{Ask}
 use Rattle.app_api.specs.declared.ask.Ask.TheVariants as asked
+use Rattle.app_api.specs.declared.ask.Answer.{Answer}
 use Rattle.app_api.specs.declared.ask.Answer.TheVariants as answers
+use Rattle.app_api.specs.declared.login.Login.{Login}
+use Rattle.app_api.specs.Logins.{login_id, login_number}
+use Rattle.instances.specs.Instances.{Table, login_in}
 use Rattle.app_api.specs.declared.out.Outs.{Outs}
 use Rattle.object_asks.specs.Asks.{Answered, Returned, Panicked, Resolution, Settled, resolution_in, object_resolution}
 use Rattle.object_asks.specs.Serving.{plainly}
@@ -18,6 +22,7 @@ use Rattle.alone.specs.declared.family.Family.TheVariants as families
 use Rattle.alone.specs.declared.family.Family.TheVariants.{Entry}
 use Rattle.alone.specs.declared.active_entry.ActiveEntry.{ActiveEntry}
 use Rattle.alone.specs.declared.active_entry.EntryPoint.{EntryPoint}
+use Rattle.alone.specs.declared.active_entry.EntryPoint.TheVariants as stages
 use Rattle.alone.specs.Families.{family_of}
 pub use Rattle.alone.specs.Machine.{objects_of, with_objects}
 use Rattle.alone.specs.Crypto.{crypto_resolution, generation_resolution}
@@ -61,6 +66,26 @@ mask_after masked ask = masked
 abbrev pub mask_noted : ActiveEntry → Ask → ActiveEntry
 mask_noted r ask = record { op = r.op; stage = r.stage; waits = r.waits; asks = r.asks; masked = mask_after r.masked ask }
 
+-- ---- the client's identity
+
+-- the login of the session for which an entry runs; there is none at a destroy entry, before which the session is gone
+abbrev pub login_at : Table → EntryPoint → Option Login
+login_at t (stages.Create session ps places) = login_in t session
+login_at t (stages.Start session places) = login_in t session
+login_at t (stages.Invoke session places) = login_in t session
+login_at t (stages.Stop session) = login_in t session
+login_at t (stages.Destroy reply) = None
+
+-- the same of an entry that serves an operation; there is none without one
+abbrev pub login_for : Table → Option ℕ → EntryPoint → Option Login
+login_for t None stage = None
+login_for t (Some op) stage = login_at t stage
+
+-- ClientIdentity answers the number of the login and the identifier, or that there is no such item
+abbrev pub identity_answer : Option Login → Answer
+identity_answer None = answers.Refused ITEM_NOT_FOUND
+identity_answer (Some login) = answers.Identity (login_number login) (login_id login)
+
 -- ---- the family
 
 -- what an entry returns, unless its outputs are misuse
@@ -74,6 +99,7 @@ entry_resolution m r (asked.Panic code) = Settled Panicked
 entry_resolution m r asked.CancelFlag = Settled (Answered m (answers.Truth (flag_for m.queue r.op)))
 entry_resolution m r asked.CancelMask = mask_resolution m r true
 entry_resolution m r asked.CancelUnmask = mask_resolution m r false
+entry_resolution m r asked.ClientIdentity = Settled (Answered m (identity_answer (login_for m.table r.op r.stage)))
 entry_resolution m r ask = Settled Panicked
 
 -- how an ask of a family goes

@@ -71,7 +71,7 @@ bytes_of_params ps = bytes_of ps.p0 + bytes_of ps.p1 + bytes_of ps.p2 + bytes_of
 
 -- those of a call
 abbrev pub bytes_of_call : Call → ℕ
-bytes_of_call (calls.Open label ps) = bytes_of_params ps
+bytes_of_call (calls.Open label login ps) = bytes_of_params ps
 bytes_of_call (calls.Invoke label command ps) = bytes_of_params ps
 bytes_of_call (calls.Close label) = 0
 

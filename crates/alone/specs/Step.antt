@@ -9,6 +9,7 @@ use Rattle.tee_base.specs.declared.codes.Origin.{Origin}
 use Rattle.tee_base.specs.declared.codes.Origin.TheVariants.{Api, Tee, App}
 use Rattle.app_api.specs.declared.call.Call.{Call}
 use Rattle.app_api.specs.declared.call.Call.TheVariants as calls
+use Rattle.app_api.specs.declared.login.Login.{Login}
 use Rattle.app_api.specs.declared.param.Params.{Params}
 use Rattle.app_api.specs.declared.ask.Given.{Given}
 use Rattle.app_api.specs.declared.ask.Given.TheVariants as givens
@@ -118,24 +119,24 @@ abbrev pub new_instance : {A : Type 0} → A → ℕ → Instance A
 new_instance template number = record { number = number; state = template; created = false; running = None }
 
 -- the machine with the session that an open was admitted to, and with its instance where that is new
-abbrev pub after_admission : {A : Type 0} → Machine A → ℕ → ℕ → Admission → Machine A
-after_admission m client label a = record m {
-  table = with_session m.table client label a;
+abbrev pub after_admission : {A : Type 0} → Machine A → ℕ → ℕ → Login → Admission → Machine A
+after_admission m client label login a = record m {
+  table = with_session m.table client label login a;
   instances = if a.new_instance then m.instances ++ new_instance m.template a.instance ∷ [] else m.instances;
 }
 
 -- an open, by whether it is admitted: it waits, or is refused at once
-abbrev pub opened_as : {A : Type 0} → Machine A → ℕ → ℕ → Params → Result Admission Refusal → Stepped A
-opened_as m client label ps (Err refusal) = answered_at_once m refusal.code refusal.origin
-opened_as m client label ps (Ok a) = after_queueing (after_admission m client label a) client a.instance a.session (calls.Open label ps)
+abbrev pub opened_as : {A : Type 0} → Machine A → ℕ → ℕ → Login → Params → Result Admission Refusal → Stepped A
+opened_as m client label login ps (Err refusal) = answered_at_once m refusal.code refusal.origin
+opened_as m client label login ps (Ok a) = after_queueing (after_admission m client label login a) client a.instance a.session (calls.Open label login ps)
 
 -- an open: too large a parameter, a label in use, a full queue, no admission, or it waits
-abbrev pub called_open : {A : Type 0} → Machine A → ℕ → ℕ → Params → Stepped A
-called_open m client label ps =
+abbrev pub called_open : {A : Type 0} → Machine A → ℕ → ℕ → Login → Params → Stepped A
+called_open m client label login ps =
     if is_some (first_oversized ps) then answered_at_once m BAD_PARAMETERS Api
     else if is_some (facts_of_label m client label) then answered_at_once m BAD_STATE Api
     else if is_full m.queue then answered_at_once m BUSY Tee
-    else opened_as m client label ps (admission_of m.table client label)
+    else opened_as m client label login ps (admission_of m.table client label)
 
 -- an invoke in a session of this state: it waits where the session is open and the queue has room, and else is refused at once
 abbrev pub invoked_at : {A : Type 0} → Machine A → ℕ → Call → SessionFacts → SessionState → Stepped A
@@ -169,7 +170,7 @@ closed_in m client label (Some s) = closed_at m client label s s.state
 
 -- what a client's call does
 unfoldable pub after_call : {A : Type 0} → Machine A → ℕ → Call → Stepped A
-after_call m client (calls.Open label ps) = called_open m client label ps
+after_call m client (calls.Open label login ps) = called_open m client label login ps
 after_call m client (calls.Invoke label command ps) = called_invoke m client label command ps
 after_call m client (calls.Close label) = closed_in m client label (facts_of_label m client label)
 
@@ -186,7 +187,7 @@ unless_unused m i = if is_unused m i (instance_at m i) then instance_gone m i el
 
 -- session and instance of an open that waits
 abbrev pub open_of_call : ℕ → InstanceNumber → Call → Option (ℕ × ℕ)
-open_of_call session i (calls.Open label ps) = Some (session, i)
+open_of_call session i (calls.Open label login ps) = Some (session, i)
 open_of_call session i (calls.Invoke label command ps) = None
 open_of_call session i (calls.Close label) = None
 
@@ -233,8 +234,8 @@ destroy_begins op reply = entry_begun op (stages.Destroy reply) entries.Destroy
 
 -- the first entry of an operation: an open's is create where the instance never ran it
 abbrev pub first_entry : Bool → ℕ → ℕ → Call → ActiveEntry
-first_entry false op session (calls.Open label ps) = entry_begun (Some op) (stages.Create session ps (places_of ps)) entries.Create
-first_entry true op session (calls.Open label ps) = start_begun (Some op) session ps (places_of ps)
+first_entry false op session (calls.Open label login ps) = entry_begun (Some op) (stages.Create session ps (places_of ps)) entries.Create
+first_entry true op session (calls.Open label login ps) = start_begun (Some op) session ps (places_of ps)
 first_entry created op session (calls.Invoke label command ps) = entry_begun (Some op) (stages.Invoke session (places_of ps)) (entries.Invoke session command ps)
 first_entry created op session (calls.Close label) = entry_begun (Some op) (stages.Stop session) (entries.Stop session)
 

@@ -38,8 +38,13 @@ pub fn copy_call(alloc: Global, call: &Call) -> Result<Call, NoMemory>
     ensures { IfOk result (λ copy. copy ≡ call.now) }
 {
     Ok(match call {
-        Call::Open { label, params } => Call::Open {
+        Call::Open {
+            label,
+            login,
+            params,
+        } => Call::Open {
             label: *label,
+            login: *login,
             params: copy_params(alloc, params)?,
         },
         Call::Invoke {

@@ -8,7 +8,7 @@ use app_api::Ask;
 /// Which part of the machine an ask comes to.
 #[derive(Clone, Copy, Debug, PartialEq, Eq)]
 pub enum Family {
-    /// The entry itself: its end, and cancellation.
+    /// The entry itself: its end, cancellation, and who its client is.
     Entry,
     /// Objects, enumerators and keys.
     Objects,
@@ -27,7 +27,8 @@ pub fn family_of(ask: &Ask) -> Family
         | Ask::Panic { .. }
         | Ask::CancelFlag
         | Ask::CancelMask
-        | Ask::CancelUnmask => Family::Entry,
+        | Ask::CancelUnmask
+        | Ask::ClientIdentity => Family::Entry,
         Ask::ObjOpen { .. }
         | Ask::ObjCreate { .. }
         | Ask::ObjClose { .. }
@@ -65,6 +66,11 @@ pub fn family_of(ask: &Ask) -> Family
         | Ask::MacFinal { .. }
         | Ask::MacCompare { .. }
         | Ask::DigestUpdate { .. }
-        | Ask::DigestFinal { .. } => Family::Operations,
+        | Ask::DigestFinal { .. }
+        | Ask::AeInit { .. }
+        | Ask::AeAad { .. }
+        | Ask::AeUpdate { .. }
+        | Ask::AeSeal { .. }
+        | Ask::AeOpen { .. } => Family::Operations,
     }
 }

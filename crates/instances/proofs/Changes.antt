@@ -6,6 +6,7 @@ use Rattle.std.proofs.lemmas.List.{length_push, length-map}
 use Rattle.std.proofs.lemmas.List.Sums.{length-filter, count_by-le-length}
 use Rattle.tee_base.specs.Numbers.{lowest_free}
 use Rattle.tee_base.specs.declared.limits.TheConstants.{MAX_INSTANCES, MAX_SESSIONS}
+use Rattle.app_api.specs.declared.login.Login.{Login}
 use Rattle.instances.specs.declared.session.Session.{Session}
 use Rattle.instances.specs.declared.session.Slot.{Slot}
 use Rattle.instances.specs.declared.session.SessionState.{SessionState}
@@ -66,9 +67,9 @@ record SlotsFit (single : Bool) (slots : List Slot) : Type 0 where
   numbers : Fits number_of_slot MAX_INSTANCES slots
   one : single ≡ true → length slots ≤ 1
 
-pub entered_IsTable : (t : Table) (client label : ℕ) (a : Admission) → IsTable t → IsAdmitted t a → IsTable (with_session t client label a)
-entered_IsTable t client label a old fits =
-    let session : Session = record { client = client; label = label; number = a.session; instance = a.instance; state = Opening } in
+pub entered_IsTable : (t : Table) (client label : ℕ) (login : Login) (a : Admission) → IsTable t → IsAdmitted t a → IsTable (with_session t client label login a)
+entered_IsTable t client label login a old fits =
+    let session : Session = record { client = client; label = label; number = a.session; instance = a.instance; state = Opening; login = login } in
     let slot : Slot = record { number = a.instance; ending = false } in
     let slots : SlotsFit t.properties.single (cond a.new_instance (t.slots ++ slot ∷ []) t.slots) =
     cond_both a.new_instance (t.slots ++ slot ∷ []) t.slots (SlotsFit t.properties.single)
@@ -78,7 +79,7 @@ entered_IsTable t client label a old fits =
           λ single. omega (arith, length_push t.slots slot, fits.one new single);
     })
     (λ _. record { numbers = slots_Fits t old; one = old.one_instance }) in
-    IsTable-from_Fits (with_session t client label a) slots.numbers (Fits-push number_of MAX_SESSIONS t.sessions session (sessions_Fits t old) fits.session fits.room) slots.one
+    IsTable-from_Fits (with_session t client label login a) slots.numbers (Fits-push number_of MAX_SESSIONS t.sessions session (sessions_Fits t old) fits.session fits.room) slots.one
 
 -- with other instances, of which there aren't more
 pub with_slots : (t : Table) (slots : List Slot) → IsTable t → Fits number_of_slot MAX_INSTANCES slots → length slots ≤ length t.slots → IsTable (record t { slots = slots })

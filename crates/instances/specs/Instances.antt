@@ -1,12 +1,13 @@
 -- Instances and sessions of one application (TEE Internal Core API 1.3, sections 2.1.3 and 4.5; TEE Client API 1.0, section 4.5.5).
 use Rattle.std.specs.Prelude.{ℕ, ◌≡◌, ◌≢◌, ◌≤◌, ◌==◌, nat_le, Bool, true, false, not, ◌&&◌, ◌||◌, List, [], ◌∷◌, ◌++◌, Option, None, Some}
-use Rattle.std.specs.Prelude.{is_some, Result, Ok, Err, if◌then◌else◌, find, filter, map, length, All, AllPairs}
+use Rattle.std.specs.Prelude.{is_some, option_map, Result, Ok, Err, if◌then◌else◌, find, filter, map, length, All, AllPairs}
 use Rattle.std.specs.List.{list_any}
 use Rattle.tee_base.specs.Numbers.{lowest_free}
 use Rattle.tee_base.specs.declared.codes.Origin.TheVariants.{Api, Tee}
 use Rattle.tee_base.specs.declared.codes.TheConstants.Code.{BUSY, BAD_STATE}
 use Rattle.tee_base.specs.declared.limits.TheConstants.{MAX_INSTANCES, MAX_SESSIONS}
 use Rattle.app_api.specs.declared.host.Properties.{Properties}
+use Rattle.app_api.specs.declared.login.Login.{Login}
 use Rattle.instances.specs.declared.session.Session.{Session}
 use Rattle.instances.specs.declared.session.Slot.{Slot}
 use Rattle.instances.specs.declared.session.SessionFacts.{SessionFacts}
@@ -33,6 +34,10 @@ is_known_as client label s = (s.client == client) && (s.label == label)
 -- the session that the client knows by this label, where there is one
 abbrev pub session_of : Table → ℕ → ℕ → Option Session
 session_of t client label = find (is_known_as client label) t.sessions
+
+-- the login with which the session of this number was opened, where there is one
+abbrev pub login_in : Table → ℕ → Option Login
+login_in t number = option_map (λ s. s.login) (find (λ s. s.number == number) t.sessions)
 
 -- what is told of a session
 abbrev pub facts_of : Session → SessionFacts
@@ -102,12 +107,12 @@ admission_of t client label =
     else if t.properties.single then shared_instance t t.slots
     else own_instance t
 
--- the table with one session more, which is opening, and with its instance where that is new
-abbrev pub with_session : Table → ℕ → ℕ → Admission → Table
-with_session t client label a = record {
+-- the table with one session more, which is opening and keeps its client's login, and with its instance where that is new
+abbrev pub with_session : Table → ℕ → ℕ → Login → Admission → Table
+with_session t client label login a = record {
   properties = t.properties;
   slots = if a.new_instance then t.slots ++ record { number = a.instance; ending = false } ∷ [] else t.slots;
-  sessions = t.sessions ++ record { client = client; label = label; number = a.session; instance = a.instance; state = Opening } ∷ [];
+  sessions = t.sessions ++ record { client = client; label = label; number = a.session; instance = a.instance; state = Opening; login = login } ∷ [];
 }
 
 -- the session, in this state if it has this number

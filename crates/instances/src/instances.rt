@@ -2,7 +2,7 @@
 
 use crate::session::{Session, SessionFacts, SessionState, Slot};
 use crate::tables;
-use app_api::Properties;
+use app_api::{Login, Properties};
 use arrayvec::ArrayVec;
 use std::marker::Model;
 use tee_base::limits::{MAX_INSTANCES, MAX_SESSIONS};
@@ -69,7 +69,7 @@ impl Model for Instances {
 
 impl Instances {
     ghost use Rattle.std.specs.Prelude.{◌≡◌, ◌↔◌, IsTrue, IsSome, option_map, Ok};
-    ghost use Rattle.instances.specs.Instances.{Table, IsTable, no_instances, session_of, facts_of, admission_of, own_instance, shared_instance, with_session, state_set, session_removed, has_session, has_number, is_left, slot_exists, destroy_begun, without_instance};
+    ghost use Rattle.instances.specs.Instances.{Table, IsTable, no_instances, session_of, facts_of, admission_of, own_instance, shared_instance, with_session, state_set, session_removed, has_session, has_number, is_left, login_in, slot_exists, destroy_begun, without_instance};
 
     /// No instance and no session.
     pub fn new(properties: Properties) -> Instances
@@ -138,10 +138,10 @@ impl Instances {
         })
     }
 
-    /// Enters the session that was admitted, as opening, and its instance where that is new.
-    pub fn enter(&mut self, client: u8, label: u32, admission: Admission)
+    /// Enters the session that was admitted, as opening and with its client's login, and its instance where that is new.
+    pub fn enter(&mut self, client: u8, label: u32, login: &Login, admission: Admission)
         requires { admission_of self.old client label ≡ Ok admission }
-        ensures { self.new ≡ with_session self.old client label admission }
+        ensures { self.new ≡ with_session self.old client label login.now admission }
     {
         tables::add_instance(&mut self.slots, admission);
         self.sessions.push(Session {
@@ -150,6 +150,7 @@ impl Instances {
             number: admission.session,
             instance: admission.instance,
             state: SessionState::Opening,
+            login: *login,
         });
     }
 
@@ -158,6 +159,16 @@ impl Instances {
         ensures { result ≡ option_map facts_of (session_of self.now client label) }
     {
         tables::known_as(self.sessions.as_slice(), client, label)
+    }
+
+    /// The login with which the session of this number was opened, if there is one.
+    pub fn login(&self, session: u8) -> Option<Login>
+        ensures { result ≡ login_in self.now session }
+    {
+        self.sessions
+            .iter()
+            .find(|s| s.number == session)
+            .map(|s| s.login)
     }
 
     /// The session is in this state from now on. Where there is none of this number, nothing changes.

@@ -1,5 +1,6 @@
 //! Sessions and instances as they are kept.
 
+use app_api::Login;
 use std::default::Default;
 
 /// Where a session stands.
@@ -46,6 +47,8 @@ pub struct Session {
     pub number: u8,
     pub instance: u8,
     pub state: SessionState,
+    /// Who its client said that it is.
+    pub login: Login,
 }
 
 impl Session {

@@ -24,7 +24,7 @@ empty_queue = record { next = 1; operations = [] }
 
 -- the call closes a session
 abbrev pub is_close_call : Call → Bool
-is_close_call (Open label params) = false
+is_close_call (Open label login params) = false
 is_close_call (Invoke label command params) = false
 is_close_call (Close label) = true
 

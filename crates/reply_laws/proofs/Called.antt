@@ -9,6 +9,7 @@ use Rattle.tee_base.specs.declared.codes.Origin.TheVariants.{Api, Tee}
 use Rattle.tee_base.specs.declared.codes.TheConstants.Code.{SUCCESS, BAD_PARAMETERS, BAD_STATE, BUSY, TARGET_DEAD}
 use Rattle.app_api.specs.declared.call.Call.{Call}
 use Rattle.app_api.specs.declared.call.Call.TheVariants as calls
+use Rattle.app_api.specs.declared.login.Login.{Login}
 use Rattle.app_api.specs.declared.param.Params.{Params}
 use Rattle.app_api.specs.Params.{first_oversized}
 use Rattle.instances.specs.declared.instances.Admission.{Admission}
@@ -129,14 +130,14 @@ waits m t xs client i session call queue k invoked created fits same =
 
 -- ---- an open
 
-opens_admitted : {A : Type 0} (m : Machine A) (client label : ℕ) (ps : Params) (a : Admission) → IsQueue m.queue → IsKeepingMachine m
-    → IsRepliedBy m (after_queueing (after_admission m client label a) client a.instance a.session (calls.Open label ps))
-opens_admitted {A} m client label ps a queue k =
-    let session : Session = record { client = client; label = label; number = a.session; instance = a.instance; state = Opening } in
+opens_admitted : {A : Type 0} (m : Machine A) (client label : ℕ) (login : Login) (ps : Params) (a : Admission) → IsQueue m.queue → IsKeepingMachine m
+    → IsRepliedBy m (after_queueing (after_admission m client label login a) client a.instance a.session (calls.Open label login ps))
+opens_admitted {A} m client label login ps a queue k =
+    let session : Session = record { client = client; label = label; number = a.session; instance = a.instance; state = Opening; login = login } in
     let new : Instance A = new_instance m.template a.instance in
     let ys : List (Instance A) = cond a.new_instance (m.instances ++ new ∷ []) m.instances in
-    let o : Operation = waiter m.queue client a.instance a.session (calls.Open label ps) in
-    waits m (with_session m.table client label a) ys client a.instance a.session (calls.Open label ps) queue k
+    let o : Operation = waiter m.queue client a.instance a.session (calls.Open label login ps) in
+    waits m (with_session m.table client label login a) ys client a.instance a.session (calls.Open label login ps) queue k
     (λ s j n some. omega (
       arith,
       k.invoked s j n (omega (arith, some, never ((o.number == n) && (o.instance == j) && (o.session == s)))),
@@ -286,14 +287,15 @@ module _ {A : Type 0} where
 
   -- ---- any call
 
-  opens_as : (m : Machine A) (client label : ℕ) (ps : Params) → IsSoundMachine m → IsKeepingMachine m → (r : Result Admission Refusal) → IsRepliedBy m (opened_as m client label ps r)
-  opens_as m client label ps h k (Err refusal) = at_once m m.table refusal.code refusal.origin k
-  opens_as m client label ps h k (Ok a) = opens_admitted m client label ps a h.queue k
+  opens_as : (m : Machine A) (client label : ℕ) (login : Login) (ps : Params) → IsSoundMachine m → IsKeepingMachine m → (r : Result Admission Refusal)
+      → IsRepliedBy m (opened_as m client label login ps r)
+  opens_as m client label login ps h k (Err refusal) = at_once m m.table refusal.code refusal.origin k
+  opens_as m client label login ps h k (Ok a) = opens_admitted m client label login ps a h.queue k
 
-  takes_open : (m : Machine A) (client label : ℕ) (ps : Params) → IsSoundMachine m → IsKeepingMachine m → IsRepliedBy m (called_open m client label ps)
-  takes_open m client label ps h k =
+  takes_open : (m : Machine A) (client label : ℕ) (login : Login) (ps : Params) → IsSoundMachine m → IsKeepingMachine m → IsRepliedBy m (called_open m client label login ps)
+  takes_open m client label login ps h k =
       let P : Stepped A → Type 0 = IsRepliedBy m in
-      let last = opened_as m client label ps (admission_of m.table client label) in
+      let last = opened_as m client label login ps (admission_of m.table client label) in
       let third = cond (is_full m.queue) (answered_at_once m BUSY Tee) last in
       let second = cond (is_some (facts_of_label m client label)) (answered_at_once m BAD_STATE Api) third in
       cond_both (is_some (first_oversized ps)) (answered_at_once m BAD_PARAMETERS Api) second P
@@ -302,7 +304,7 @@ module _ {A : Type 0} where
       (λ _. at_once m m.table BAD_STATE Api k)
       (λ _. cond_both (is_full m.queue) (answered_at_once m BUSY Tee) last P
       (λ _. at_once m m.table BUSY Tee k)
-      (λ _. opens_as m client label ps h k (admission_of m.table client label))))
+      (λ _. opens_as m client label login ps h k (admission_of m.table client label))))
 
   invokes_at : (m : Machine A) (client label command : ℕ) (ps : Params) (s : Session) → IsSoundMachine m → IsKeepingMachine m → session_of m.table client label ≡ Some s
       → (state : SessionState) → s.state ≡ state → IsRepliedBy m (invoked_at m client (calls.Invoke label command ps) (facts_of s) state)
@@ -333,7 +335,7 @@ module _ {A : Type 0} where
 
   pub call_replied : (m : Machine A) (client : ℕ) (call : Call) → IsSoundMachine m → IsKeepingMachine m → IsRepliedBy m (after_call m client call)
   unfolding after_call
-  call_replied m client (calls.Open label ps) h k = takes_open m client label ps h k
+  call_replied m client (calls.Open label login ps) h k = takes_open m client label login ps h k
   call_replied m client (calls.Invoke label command ps) h k =
       cond_both (is_some (first_oversized ps)) (answered_at_once m BAD_PARAMETERS Api) (invoked_in m client (calls.Invoke label command ps) (facts_of_label m client label)) (IsRepliedBy m)
       (λ _. at_once m m.table BAD_PARAMETERS Api k)

@@ -85,7 +85,7 @@ without_less f op os o e number =
 
 -- what a waiting open claims
 call_claims : (session i : ℕ) (call : Call) (n j : ℕ) → open_of_call session i call ≡ Some (n, j) → claim_of_call session i call ≡ Some (facts n j Opening)
-call_claims session i (calls.Open label ps) n j e = ap (option_map (λ o. facts o.0 o.1 Opening)) e
+call_claims session i (calls.Open label login ps) n j e = ap (option_map (λ o. facts o.0 o.1 Opening)) e
 call_claims session i (calls.Invoke label command ps) n j e = absurd (nothing_found (n, j) e)
 call_claims session i (calls.Close label) n j e = absurd (nothing_found (n, j) e)
 

@@ -27,7 +27,7 @@ use Rattle.reply_laws.proofs.Weights.{closers, invokes, is_closer, is_invoke, is
 -- a close that waits claims a session of its instance
 closer_claims : (s i k number instance session : ℕ) (progress : Progress) → bit (nat_lt k number && (instance == i) && (session == s) && waits_as is_close_call progress)
     ≤ weigh (counts_in i) (claim_of_progress session instance progress)
-closer_claims s i k number instance session (Waiting (calls.Open label ps)) = omega (arith, never (nat_lt k number && (instance == i) && (session == s)))
+closer_claims s i k number instance session (Waiting (calls.Open label login ps)) = omega (arith, never (nat_lt k number && (instance == i) && (session == s)))
 closer_claims s i k number instance session (Waiting (calls.Invoke label command ps)) = omega (arith, never (nat_lt k number && (instance == i) && (session == s)))
 closer_claims s i k number instance session (Waiting (calls.Close label)) = claims (nat_lt k number) (instance == i) (session == s)
   where
@@ -64,7 +64,7 @@ all_true a b c d first second third fourth =
 -- what waits for the instance claims a session of it, or is an invoke
 waits_claims : (i : ℕ) (o : Operation) (progress : Progress) → o.progress ≡ progress → waits_for i o ≡ true
     → (1 ≤ weigh (counts_in i) (claim_of o)) ⊎ (1 ≤ bit (is_invoke_at o.session i o.number o))
-waits_claims i o (Waiting (calls.Open label ps)) e waits_so =
+waits_claims i o (Waiting (calls.Open label login ps)) e waits_so =
     let own = (and_parts (o.instance == i) (not (is_running o.progress)) waits_so).0 in
     inl (omega (arith, ap (λ p. weigh (counts_in i) (claim_of_progress o.session o.instance p)) e, ap (λ b. bit (b && true)) own))
 waits_claims i o (Waiting (calls.Close label)) e waits_so =

@@ -88,6 +88,7 @@ module _ {A : Type 0} (m : Machine A) where
   entry_like r asked.CancelFlag = record { queue = alike_same m.queue; table = refl; instances = refl }
   entry_like r asked.CancelMask = mask_like r true
   entry_like r asked.CancelUnmask = mask_like r false
+  entry_like r asked.ClientIdentity = record { queue = alike_same m.queue; table = refl; instances = refl }
   entry_like r ask = tt
 
   family_like : (i : ℕ) (r : ActiveEntry) (ask : Ask) (family : Family) → ResolutionLike m (resolution_in_family family m i r ask)

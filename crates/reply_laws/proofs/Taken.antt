@@ -5,6 +5,7 @@ use Rattle.std.proofs.lemmas.Bool.{eq-eqb}
 use Rattle.app_api.specs.Params.{first_oversized}
 use Rattle.app_api.specs.declared.call.Call.{Call}
 use Rattle.app_api.specs.declared.call.Call.TheVariants as calls
+use Rattle.app_api.specs.declared.login.Login.{Login}
 use Rattle.app_api.specs.declared.param.Params.{Params}
 use Rattle.instances.specs.declared.instances.Admission.{Admission}
 use Rattle.instances.specs.declared.instances.Refusal.{Refusal}
@@ -46,9 +47,9 @@ module _ {A : Type 0} where
   either op true s t h k = h
   either op false s t h k = k
 
-  open_taken : (m : Machine A) (client label : ℕ) (ps : Params) (admitted : Result Admission Refusal) → IsTaken m.queue.next (opened_as m client label ps admitted)
-  open_taken m client label ps (Err refusal) = at_once m refusal.code refusal.origin
-  open_taken m client label ps (Ok a) = waits (after_admission m client label a) client a.instance a.session (calls.Open label ps)
+  open_taken : (m : Machine A) (client label : ℕ) (login : Login) (ps : Params) (admitted : Result Admission Refusal) → IsTaken m.queue.next (opened_as m client label login ps admitted)
+  open_taken m client label login ps (Err refusal) = at_once m refusal.code refusal.origin
+  open_taken m client label login ps (Ok a) = waits (after_admission m client label login a) client a.instance a.session (calls.Open label login ps)
 
   invoke_at : (m : Machine A) (client : ℕ) (call : Call) (s : SessionFacts) (state : SessionState) → IsTaken m.queue.next (invoked_at m client call s state)
   invoke_at m client call s Opening = at_once m BAD_STATE Api
@@ -72,10 +73,10 @@ module _ {A : Type 0} where
 
   call_taken : (m : Machine A) (client : ℕ) (call : Call) → IsTaken m.queue.next (after_call m client call)
   unfolding after_call
-  call_taken m client (calls.Open label ps) =
+  call_taken m client (calls.Open label login ps) =
       either m.queue.next (is_some (first_oversized ps)) _ _ (at_once m BAD_PARAMETERS Api)
       (either m.queue.next (is_some (facts_of_label m client label)) _ _ (at_once m BAD_STATE Api)
-      (either m.queue.next (is_full m.queue) _ _ (at_once m BUSY Tee) (open_taken m client label ps (admission_of m.table client label))))
+      (either m.queue.next (is_full m.queue) _ _ (at_once m BUSY Tee) (open_taken m client label login ps (admission_of m.table client label))))
   call_taken m client (calls.Invoke label command ps) =
       either m.queue.next (is_some (first_oversized ps)) _ _ (at_once m BAD_PARAMETERS Api)
       (invoke_taken m client (calls.Invoke label command ps) (facts_of_label m client label))

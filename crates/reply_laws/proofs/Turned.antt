@@ -386,7 +386,7 @@ module _ {A : Type 0} (m : Machine A) (inst : Instance A) (h : IsSoundMachine m)
 
       claims : (number instance session : ℕ) (progress : Progress) → bit (nat_lt n number && (instance == inst.number) && (session == s) && waits_as is_close_call progress)
           ≤ weigh (live_at inst.number) (claim_of_progress session instance progress)
-      claims number instance session (Waiting (calls.Open label ps)) = omega (arith, never (nat_lt n number && (instance == inst.number) && (session == s)))
+      claims number instance session (Waiting (calls.Open label login ps)) = omega (arith, never (nat_lt n number && (instance == inst.number) && (session == s)))
       claims number instance session (Waiting (calls.Invoke label command ps)) = omega (arith, never (nat_lt n number && (instance == inst.number) && (session == s)))
       claims number instance session (Waiting (calls.Close label)) = closes (nat_lt n number) (instance == inst.number) (session == s)
       claims number instance session (Runs close cancelled masked) = omega (arith, never (nat_lt n number && (instance == inst.number) && (session == s)))
@@ -410,10 +410,10 @@ module _ {A : Type 0} (m : Machine A) (inst : Instance A) (h : IsSoundMachine m)
   -- what begins fits the instance
   first_fits : (o : Operation) (call : Call) → first_waiting m.queue inst.number ≡ Some o → o.progress ≡ Waiting call → (created : Bool) → inst.created ≡ created
       → EntryFits (record inst { running = Some (first_entry created o.number o.session call) })
-  first_fits o (calls.Open label ps) first e true made = record { creates = λ no. absurd (both_ways inst.created no made); replies = tt }
+  first_fits o (calls.Open label login ps) first e true made = record { creates = λ no. absurd (both_ways inst.created no made); replies = tt }
   first_fits o (calls.Invoke label command ps) first e true made = record { creates = λ no. absurd (both_ways inst.created no made); replies = tt }
   first_fits o (calls.Close label) first e true made = record { creates = λ no. absurd (both_ways inst.created no made); replies = tt }
-  first_fits o (calls.Open label ps) first e false made = record { creates = λ _. tt; replies = tt }
+  first_fits o (calls.Open label login ps) first e false made = record { creates = λ _. tt; replies = tt }
   first_fits o (calls.Invoke label command ps) first e false made =
       let i = inst.number in
       let own : (o.instance == i) ≡ true = (and_parts (o.instance == i) (not (is_running o.progress)) (found_passes (waits_for i) m.queue.operations o first)).0 in
@@ -448,8 +448,8 @@ module _ {A : Type 0} (m : Machine A) (inst : Instance A) (h : IsSoundMachine m)
     new = record inst { running = Some (first_entry inst.created o.number o.session call) }
 
     serves_one : (created : Bool) (n : ℕ) (call : Call) → serves n (Some (first_entry created o.number o.session call)) ≡ (o.number == n)
-    serves_one false n (calls.Open label ps) = refl
-    serves_one true n (calls.Open label ps) = refl
+    serves_one false n (calls.Open label login ps) = refl
+    serves_one true n (calls.Open label login ps) = refl
     serves_one false n (calls.Invoke label command ps) = refl
     serves_one true n (calls.Invoke label command ps) = refl
     serves_one false n (calls.Close label) = refl

@@ -24,7 +24,7 @@ use Rattle.alone.proofs.Changed.{operation_number}
 -- ---- operations
 
 abbrev pub is_invoke : Call → Bool
-is_invoke (calls.Open label ps) = false
+is_invoke (calls.Open label login ps) = false
 is_invoke (calls.Invoke label command ps) = true
 is_invoke (calls.Close label) = false
 

@@ -1,7 +1,7 @@
 //! Full tables of each kind, and what ends with an instance.
 
-use crate::openings::open;
-use app_api::Properties;
+use crate::openings::{open, open_as};
+use app_api::{Login, Properties};
 use instances::{Admission, Instances, Refusal, SessionFacts, SessionState};
 use std::test::Fail;
 use tee_base::{Code, Origin};
@@ -152,5 +152,20 @@ fn what_ends_with_an_instance(rt: HostRuntime) -> Result<(), Fail> {
     assert!(rt; instances.find(0, 0) == None);
     assert!(rt; instances.find(0, 1) == facts(2, 1, SessionState::Dead));
     assert!(rt; instances.find(0, 2) == None);
+    Ok(())
+}
+
+#[test]
+fn sessions_keep_their_logins(rt: HostRuntime) -> Result<(), Fail> {
+    let mut instances = Instances::new(SHARED);
+    assert!(rt; open_as(&mut instances, 0, 0, &Login::User(1000)).is_ok());
+    assert!(rt; open_as(&mut instances, 0, 1, &Login::Group(100)).is_ok());
+    assert!(rt; open(&mut instances, 1, 0).is_ok());
+    assert!(rt; instances.login(1) == Some(Login::User(1000)));
+    assert!(rt; instances.login(2) == Some(Login::Group(100)));
+    assert!(rt; instances.login(3) == Some(Login::Public));
+    assert!(rt; instances.login(4) == None);
+    close(&mut instances, 0, 0);
+    assert!(rt; instances.login(1) == None);
     Ok(())
 }

@@ -20,5 +20,5 @@ invariant_of-self c = rw (c.add_instance.ensures, c.push.ensures.items) (entered
   slots =
       c.self.inside.slots.items;
   sessions = c.self.inside.sessions.items;
-}) c.args.client c.args.label c.args.admission c.self.invariant
+}) c.args.client c.args.label c.args.login.now c.args.admission c.self.invariant
     (admitted _ _ _ _ _ c.self.view_is c.requires))
