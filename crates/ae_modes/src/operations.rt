@@ -14,10 +14,34 @@ const MAX_AAD: usize = 0x1_0000_0000;
 const MAX_TEXT: usize = 0xf_ffff_ffe0;
 
 impl Gcm {
-    ghost use Rattle.std.specs.Prelude.{◌≡◌, ◌+◌, ◌-◌, ◌^◌, ◌<◌, ◌≤◌, ◌↔◌, ◌&&◌, ◌==◌, nat_lt, ℕ, Bool, false, List, ◌++◌, length, take, drop, IsTrue, OnOk, OnErr, IfOk};
+    ghost use Rattle.std.specs.Prelude.{◌≡◌, ◌+◌, ◌-◌, ◌^◌, ◌<◌, ◌≤◌, ◌↔◌, ◌&&◌, ◌==◌, nat_lt, not, ℕ, Bool, false, List, ◌++◌, length, take, drop, IsTrue, OnOk, OnErr, IfOk};
     ghost use Rattle.ae_modes.specs.Gcm.{whole_tag};
     ghost use Rattle.ae_modes.specs.Message.{Message, with_aad, with_more, at_start, text_of, cipher_of, tag_of, tag_len, aad_answer, update_answer, seal_answer, open_answer, ends_message};
     ghost use Rattle.ae_modes.specs.Represents.{Represents};
+
+    /// Which way it goes, as `seal` and `open` ask.
+    pub fn way(&self) -> AeWay
+        ensures { result ≡ self.now.way }
+    {
+        self.way
+    }
+
+    /// How many bytes its tag has, no more than 16.
+    pub fn tag_len(&self) -> usize
+        ensures own { (m : Message) → Represents self.now m → result ≡ tag_len m }
+        ensures few { result ≤ 16 }
+    {
+        self.tag_len
+    }
+
+    /// Whether the message may have so many bytes more.
+    pub fn holds(&self, more: usize) -> bool
+        requires { more < 2 ^ 32 }
+        ensures { (m : Message) → Represents self.now m
+            → result ≡ not (nat_lt (2 ^ 36 - 32) (length m.message + more)) }
+    {
+        more <= MAX_TEXT - self.text_len
+    }
 
     /// Takes more associated data. It takes no memory.
     ///

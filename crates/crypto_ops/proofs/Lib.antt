@@ -1,2 +1,3 @@
+pub mod AeLemmas
 pub mod KeyLemmas
 pub mod RandomLemmas

@@ -9,18 +9,24 @@ use Rattle.aes_modes.specs.declared.modes.Mode as modes
 use Rattle.aes_modes.specs.declared.modes.Mode.TheVariants.{Ecb, Cbc, Ctr}
 use Rattle.aes_modes.specs.Conversion.{Conversion, text_of, with_more, needed_of, ends_within}
 use Rattle.mac_digest.specs.Hash.{digest_of, digest_len}
-use Rattle.mac_digest.specs.Hmac.{hmac_of}
-use Rattle.crypto_ops.specs.Algorithms.{algorithm_at, algorithm_number, mode_number, key_kind, greatest_fits, key_fits, usage_bit, is_cipher, is_mac, is_digest, mode_of, way_of, hash_of}
+use Rattle.ae_modes.specs.Message.{Message, text_of as text_of_ae, with_more as with_more_ae, tag_of, is_tag_bits, aad_answer, update_answer, seal_answer, open_answer}
+use Rattle.ae_modes.specs.declared.answers.AeWay.{AeWay}
+use Rattle.ae_modes.specs.declared.answers.AeWay.TheVariants as ae_ways
+use Rattle.ae_modes.specs.declared.answers.AeAnswer.{AeAnswer}
+use Rattle.ae_modes.specs.declared.answers.AeAnswer.TheVariants.{WrongTag, NoNonce, Late, TooLong, ShortBuffer, BadTag}
+use Rattle.crypto_ops.specs.Algorithms.{algorithm_at, algorithm_number, mode_number, key_kind, greatest_fits, key_fits, usage_bit, is_cipher, is_ae, is_mac, is_digest, mode_of, way_of, hash_of, ae_way, code_len, code_of}
 use Rattle.crypto_ops.specs.declared.algorithm.Algorithm.{Algorithm}
 use Rattle.crypto_ops.specs.declared.answer.OpAnswer.{OpAnswer}
 use Rattle.crypto_ops.specs.declared.answer.OpAnswer.TheVariants.{NotSupported, Short, MacInvalid, Misuse, NoMemory}
 use Rattle.crypto_ops.specs.declared.about.OpAbout.{OpAbout}
+use Rattle.crypto_ops.specs.declared.sealed.OpSealed.{OpSealed}
 use Rattle.tee_base.specs.Words.{Key}
 
--- the state of an operation: initial, or active with its vector and the whole message so far
+-- the state of an operation: initial, or active with its vector and the whole message so far. In authenticated encryption the vector
+-- is the nonce, the tag has so many bits, and there is the whole associated data so far; elsewhere these are 0 and empty
 pub data Progress : Type 0 where
   Initial : Progress
-  Active : List ℕ → List ℕ → Progress
+  Active : (vector : List ℕ) (tag_bits : ℕ) (aad message : List ℕ) → Progress
 
 -- an operation: what it computes, the greatest size of its key in bits, its key if it has one, and its state
 pub record CryptoOperation : Type 0 where
@@ -32,17 +38,27 @@ pub record CryptoOperation : Type 0 where
 -- it is at work on a message
 abbrev pub is_active : Progress → Bool
 is_active Initial = false
-is_active (Active vector message) = true
+is_active (Active vector tag_bits aad message) = true
 
 -- the vector, where there is one
 abbrev pub vector_of : Progress → List ℕ
 vector_of Initial = []
-vector_of (Active vector message) = vector
+vector_of (Active vector tag_bits aad message) = vector
+
+-- the bits of the tag, where there is one
+abbrev pub tag_bits_of : Progress → ℕ
+tag_bits_of Initial = 0
+tag_bits_of (Active vector tag_bits aad message) = tag_bits
+
+-- the associated data so far
+abbrev pub aad_of : Progress → List ℕ
+aad_of Initial = []
+aad_of (Active vector tag_bits aad message) = aad
 
 -- the message so far
 abbrev pub message_of : Progress → List ℕ
 message_of Initial = []
-message_of (Active vector message) = message
+message_of (Active vector tag_bits aad message) = message
 
 -- the bytes of the key, where there is one
 abbrev pub key_bytes : Option (List ℕ) → List ℕ
@@ -67,11 +83,13 @@ operation_at_start op = record op { progress = Initial }
 
 -- the operation at the start of a message
 abbrev pub begun : CryptoOperation → List ℕ → CryptoOperation
-begun op vector = record op { progress = Active vector [] }
+begun op vector = record op { progress = Active vector 0 [] [] }
 
 -- the operation with more bytes of its message
 abbrev pub with_more_message : CryptoOperation → List ℕ → CryptoOperation
-with_more_message op bytes = record op { progress = Active (vector_of op.progress) (message_of op.progress ++ bytes) }
+with_more_message op bytes = record op {
+  progress = Active (vector_of op.progress) (tag_bits_of op.progress) (aad_of op.progress) (message_of op.progress ++ bytes);
+}
 
 -- a new operation (section 6.2.1)
 abbrev pub fresh : Algorithm → ℕ → CryptoOperation
@@ -226,13 +244,13 @@ mac_update_answer op bytes = if is_too_much (length bytes) || not (is_at_work op
 
 -- the code of the message with these bytes behind it
 abbrev pub mac_of : CryptoOperation → List ℕ → List ℕ
-mac_of op bytes = hmac_of (hash_of op.algorithm) (key_bytes op.key) (message_of op.progress ++ bytes)
+mac_of op bytes = code_of op.algorithm (key_bytes op.key) (message_of op.progress ++ bytes)
 
 -- the last bytes of its message, for the code (section 6.5.3)
 abbrev pub mac_final_answer : CryptoOperation → List ℕ → ℕ → Result (List ℕ) OpAnswer
 mac_final_answer op bytes room =
     if is_too_much (length bytes) || is_too_much room || not (is_at_work op is_mac) then Err Misuse
-    else content_within room (digest_len (hash_of op.algorithm)) (mac_of op bytes)
+    else content_within room (code_len op.algorithm) (mac_of op bytes)
 
 -- the last bytes of its message, and a code that may be the right one (section 6.5.4)
 abbrev pub mac_compare_answer : CryptoOperation → List ℕ → List ℕ → Result (Unit {0}) OpAnswer
@@ -240,8 +258,118 @@ mac_compare_answer op bytes mac =
     if is_too_much (length bytes) || is_too_much (length mac) || not (is_at_work op is_mac) then Err Misuse
     else if bytes_eq mac (mac_of op bytes) then Ok tt else Err MacInvalid
 
--- the operation after a comparison: initial, whatever the codes were, but not after misuse
-abbrev pub after_comparison : Result (Unit {0}) OpAnswer → CryptoOperation → CryptoOperation
+-- ---- authenticated encryption
+
+-- its message so far, with its associated data
+abbrev pub ae_message : CryptoOperation → Message
+ae_message op = record {
+  key = key_bytes op.key;
+  way = ae_way (way_of op.algorithm);
+  nonce = vector_of op.progress;
+  tag_bits = tag_bits_of op.progress;
+  aad = aad_of op.progress;
+  message = message_of op.progress;
+}
+
+-- what authenticated encryption has given so far: what becomes of the whole message
+abbrev pub ae_text_so_far : CryptoOperation → List ℕ
+ae_text_so_far op = text_of_ae (ae_message op)
+
+-- the operation at the start of a message, under a nonce and with a tag of so many bits
+abbrev pub ae_begun : CryptoOperation → List ℕ → ℕ → CryptoOperation
+ae_begun op nonce tag_bits = record op { progress = Active nonce tag_bits [] [] }
+
+-- the operation with more associated data
+abbrev pub with_more_aad : CryptoOperation → List ℕ → CryptoOperation
+with_more_aad op bytes = record op {
+  progress = Active (vector_of op.progress) (tag_bits_of op.progress) (aad_of op.progress ++ bytes) (message_of op.progress);
+}
+
+-- how an operation tells a refusal of its message: the room that is needed, a tag that has no such length, a tag that is another;
+-- all else is misuse
+abbrev pub ae_refusal : AeAnswer → OpAnswer
+ae_refusal (WrongTag bits) = NotSupported
+ae_refusal NoNonce = Misuse
+ae_refusal Late = Misuse
+ae_refusal TooLong = Misuse
+ae_refusal (ShortBuffer needed) = Short needed
+ae_refusal BadTag = MacInvalid
+
+-- what is given, where the message answers that it may be
+abbrev pub ae_given : {A B : Type 0} → Result A AeAnswer → B → Result B OpAnswer
+ae_given (Ok done) given = Ok given
+ae_given (Err answer) given = Err (ae_refusal answer)
+
+-- a message begins (section 6.6.1): not of another algorithm, without a key or without a nonce; and only with a tag of 96, 104, 112,
+-- 120 or 128 bits
+abbrev pub ae_init_answer : CryptoOperation → List ℕ → ℕ → Result (Unit {0}) OpAnswer
+ae_init_answer op nonce tag_bits =
+    if is_too_much (length nonce) || not (is_ae op.algorithm) || is_none op.key || (length nonce == 0) then Err Misuse
+    else if is_tag_bits tag_bits then Ok tt
+    else Err NotSupported
+
+-- more associated data (section 6.6.2): not after the first byte of the message, nor more of it than there may be
+abbrev pub ae_aad_answer : CryptoOperation → List ℕ → Result (Unit {0}) OpAnswer
+ae_aad_answer op bytes =
+    if is_too_much (length bytes) || not (is_at_work op is_ae) then Err Misuse
+    else ae_given (aad_answer (ae_message op) (length bytes)) tt
+
+-- the next part of a message's text, for more bytes of it
+abbrev pub ae_part_of : Message → List ℕ → List ℕ
+ae_part_of m bytes = drop (length (text_of_ae m)) (text_of_ae (with_more_ae m bytes))
+
+-- what a message gives for more bytes of it
+abbrev pub ae_part_within : Message → List ℕ → ℕ → Result (List ℕ) OpAnswer
+ae_part_within m bytes room = ae_given (update_answer m (length bytes) room) (ae_part_of m bytes)
+
+-- more bytes of its message (section 6.6.3)
+abbrev pub ae_update_answer : CryptoOperation → List ℕ → ℕ → Result (List ℕ) OpAnswer
+ae_update_answer op bytes room =
+    if is_too_much (length bytes) || is_too_much room || not (is_at_work op is_ae) then Err Misuse
+    else ae_part_within (ae_message op) bytes room
+
+-- a message goes the way of encryption
+abbrev pub encrypts : AeWay → Bool
+encrypts ae_ways.Encrypt = true
+encrypts ae_ways.Decrypt = false
+
+-- the end of a message with its tag
+abbrev pub sealed_of : Message → List ℕ → OpSealed
+sealed_of m bytes = record { content = ae_part_of m bytes; tag = tag_of (with_more_ae m bytes) }
+
+-- what a message that is encrypted gives at its end
+abbrev pub sealed_within : Message → List ℕ → ℕ → ℕ → Result OpSealed OpAnswer
+sealed_within m bytes room tag_room = ae_given (seal_answer m (length bytes) room tag_room) (sealed_of m bytes)
+
+-- the last bytes of a message that is encrypted, for the rest of its text and its tag (section 6.6.4)
+abbrev pub ae_seal_answer : CryptoOperation → List ℕ → ℕ → ℕ → Result OpSealed OpAnswer
+ae_seal_answer op bytes room tag_room =
+    if is_too_much (length bytes) || is_too_much room || is_too_much tag_room || not (is_at_work op is_ae)
+    || not (encrypts (ae_message op).way)
+    then Err Misuse
+    else sealed_within (ae_message op) bytes room tag_room
+
+-- the tag is that of the message with these bytes at its end: all of its bytes, and no more
+abbrev pub is_tag_of : Message → List ℕ → List ℕ → Bool
+is_tag_of m bytes tag = bytes_eq tag (tag_of (with_more_ae m bytes))
+
+-- what a message that is decrypted gives at its end
+abbrev pub opened_within : Message → List ℕ → ℕ → List ℕ → Result (List ℕ) OpAnswer
+opened_within m bytes room tag =
+    ae_given (open_answer m (length bytes) room (is_tag_of m bytes tag)) (ae_part_of m bytes)
+
+-- the last bytes of a message that is decrypted, and a tag that may be the right one, for the rest of its text (section 6.6.5)
+abbrev pub ae_open_answer : CryptoOperation → List ℕ → ℕ → List ℕ → Result (List ℕ) OpAnswer
+ae_open_answer op bytes room tag =
+    if is_too_much (length bytes) || is_too_much room || is_too_much (length tag) || not (is_at_work op is_ae)
+    || encrypts (ae_message op).way
+    then Err Misuse
+    else opened_within (ae_message op) bytes room tag
+
+-- ---- what is left
+
+-- the operation after a comparison of a code or a tag: initial, whatever they were, but not after another refusal
+abbrev pub after_comparison : {A : Type 0} → Result A OpAnswer → CryptoOperation → CryptoOperation
 after_comparison (Ok done) op = operation_at_start op
 after_comparison (Err MacInvalid) op = operation_at_start op
 after_comparison (Err NotSupported) op = op
@@ -263,14 +391,23 @@ digest_final_answer op bytes room =
     if is_too_much (length bytes) || is_too_much room || not (is_digest op.algorithm) then Err Misuse
     else content_within room (digest_len (hash_of op.algorithm)) (digest_at_end op bytes)
 
--- the answer is the stated one; want of memory comes only in place of a content
-abbrev pub Answers : Result (List ℕ) OpAnswer → Result (List ℕ) OpAnswer → Type 0
+-- memory is taken before this is answered: for a content, and before a tag is looked at
+abbrev pub wants_memory : {A : Type 0} → Result A OpAnswer → Bool
+wants_memory (Ok content) = true
+wants_memory (Err NotSupported) = false
+wants_memory (Err (Short needed)) = false
+wants_memory (Err MacInvalid) = true
+wants_memory (Err Misuse) = false
+wants_memory (Err NoMemory) = false
+
+-- the answer is the stated one; want of memory comes only where memory is taken before it
+abbrev pub Answers : {A : Type 0} → Result A OpAnswer → Result A OpAnswer → Type 0
 Answers (Ok content) stated = stated ≡ Ok content
 Answers (Err NotSupported) stated = stated ≡ Err NotSupported
 Answers (Err (Short needed)) stated = stated ≡ Err (Short needed)
 Answers (Err MacInvalid) stated = stated ≡ Err MacInvalid
 Answers (Err Misuse) stated = stated ≡ Err Misuse
-Answers (Err NoMemory) stated = IsTrue (is_ok stated)
+Answers (Err NoMemory) stated = IsTrue (wants_memory stated)
 
 -- want of memory, or room for fewer bytes than are needed, which are told
 abbrev pub IsNoMemoryOrShort : ℕ → ℕ → OpAnswer → Type 0

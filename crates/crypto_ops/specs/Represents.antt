@@ -1,10 +1,13 @@
 -- What a value of the program means: an operation.
 use Rattle.std.specs.Prelude.{◌≡◌, true, Result, Ok, Err}
 use Rattle.aes_modes.specs.Stream as streams
+use Rattle.ae_modes.specs.Code as codes_of
+use Rattle.ae_modes.specs.Represents as ae
 use Rattle.mac_digest.specs.Digester.{HoldsMessage}
 use Rattle.mac_digest.specs.Mac.{HoldsKeyedMessage}
-use Rattle.crypto_ops.specs.Algorithms.{is_cipher, is_mac, is_digest, hash_of}
-use Rattle.crypto_ops.specs.Operations.{CryptoOperation, Initial, is_active, message_of, key_bytes, conversion_of, KeyFits}
+use Rattle.crypto_ops.specs.Algorithms.{is_cipher, is_ae, is_digest, hash_of}
+use Rattle.crypto_ops.specs.Operations.{CryptoOperation, Initial, is_active, message_of, key_bytes, conversion_of, ae_message, KeyFits}
+use Rattle.crypto_ops.specs.declared.algorithm.Algorithm.TheVariants as algorithms
 use Rattle.crypto_ops.specs.declared.answer.OpAnswer.{OpAnswer}
 use Rattle.crypto_ops.specs.declared.operation.Operation.{Operation}
 use Rattle.crypto_ops.specs.declared.operation.State.{State}
@@ -15,9 +18,14 @@ abbrev pub Serves : State → CryptoOperation → Type 0
 Serves states.Initial op = op.progress ≡ Initial
 Serves (states.Cipher stream) op =
     (is_cipher op.algorithm ≡ true) × (is_active op.progress ≡ true) × streams.Represents stream (conversion_of op)
+Serves (states.Gcm gcm) op =
+    (is_ae op.algorithm ≡ true) × (is_active op.progress ≡ true) × ae.Represents gcm (ae_message op)
 Serves (states.Mac mac) op =
-    (is_mac op.algorithm ≡ true) × (is_active op.progress ≡ true)
+    (op.algorithm ≡ algorithms.Mac (hash_of op.algorithm)) × (is_active op.progress ≡ true)
     × HoldsKeyedMessage mac (hash_of op.algorithm) (key_bytes op.key) (message_of op.progress)
+Serves (states.Cmac code) op =
+    (op.algorithm ≡ algorithms.Cmac) × (is_active op.progress ≡ true)
+    × codes_of.HoldsMessage code (key_bytes op.key) (message_of op.progress)
 Serves (states.Digest digester) op =
     (is_digest op.algorithm ≡ true) × (is_active op.progress ≡ true)
     × HoldsMessage digester (hash_of op.algorithm) (message_of op.progress)

@@ -12,8 +12,12 @@ use tee_base::keys;
 pub enum Algorithm {
     /// AES in a mode of operation, one way or the other.
     Cipher(Mode, Way),
+    /// AES-GCM, one way or the other.
+    Gcm(Way),
     /// HMAC over a hash function.
     Mac(Hash),
+    /// AES-CMAC.
+    Cmac,
     /// A digest.
     Digest(Hash),
 }
@@ -29,9 +33,11 @@ pub fn algorithm_at(number: u32, mode: u32) -> Option<Algorithm>
         keys::AES_ECB => cipher_at(Mode::Ecb, mode),
         keys::AES_CBC => cipher_at(Mode::Cbc, mode),
         keys::AES_CTR => cipher_at(Mode::Ctr, mode),
+        keys::AES_GCM => gcm_at(mode),
         keys::HMAC_SHA256 => mac_at(Hash::Sha256, mode),
         keys::HMAC_SHA384 => mac_at(Hash::Sha384, mode),
         keys::HMAC_SHA512 => mac_at(Hash::Sha512, mode),
+        keys::AES_CMAC => cmac_at(mode),
         keys::SHA256 => digest_at(Hash::Sha256, mode),
         keys::SHA384 => digest_at(Hash::Sha384, mode),
         keys::SHA512 => digest_at(Hash::Sha512, mode),
@@ -49,6 +55,32 @@ fn cipher_at(mode: Mode, number: u32) -> Option<Algorithm>
         keys::MODE_ENCRYPT => Some(Algorithm::Cipher(mode, Way::Encrypt)),
         keys::MODE_DECRYPT => Some(Algorithm::Cipher(mode, Way::Decrypt)),
         _ => None,
+    }
+}
+
+fn gcm_at(number: u32) -> Option<Algorithm>
+    ensures table { result ≡ table.gcm_at number }
+    ensures numbers { IfSome result (λ a.
+        (table.algorithm_number a ≡ table.algorithm_number (Algorithm.Gcm Way.Encrypt))
+        × (table.mode_number a ≡ number)) }
+{
+    match number {
+        keys::MODE_ENCRYPT => Some(Algorithm::Gcm(Way::Encrypt)),
+        keys::MODE_DECRYPT => Some(Algorithm::Gcm(Way::Decrypt)),
+        _ => None,
+    }
+}
+
+fn cmac_at(number: u32) -> Option<Algorithm>
+    ensures table { result ≡ table.cmac_at number }
+    ensures numbers { IfSome result (λ a.
+        (table.algorithm_number a ≡ table.algorithm_number Algorithm.Cmac)
+        × (table.mode_number a ≡ number)) }
+{
+    if number == keys::MODE_MAC {
+        Some(Algorithm::Cmac)
+    } else {
+        None
     }
 }
 
@@ -87,9 +119,11 @@ impl Algorithm {
             Algorithm::Cipher(Mode::Ecb, _) => keys::AES_ECB,
             Algorithm::Cipher(Mode::Cbc, _) => keys::AES_CBC,
             Algorithm::Cipher(Mode::Ctr, _) => keys::AES_CTR,
+            Algorithm::Gcm(_) => keys::AES_GCM,
             Algorithm::Mac(Hash::Sha256) => keys::HMAC_SHA256,
             Algorithm::Mac(Hash::Sha384) => keys::HMAC_SHA384,
             Algorithm::Mac(Hash::Sha512) => keys::HMAC_SHA512,
+            Algorithm::Cmac => keys::AES_CMAC,
             Algorithm::Digest(Hash::Sha256) => keys::SHA256,
             Algorithm::Digest(Hash::Sha384) => keys::SHA384,
             Algorithm::Digest(Hash::Sha512) => keys::SHA512,
@@ -101,9 +135,9 @@ impl Algorithm {
         ensures { result ≡ table.mode_number self }
     {
         match self {
-            Algorithm::Cipher(_, Way::Encrypt) => keys::MODE_ENCRYPT,
-            Algorithm::Cipher(_, Way::Decrypt) => keys::MODE_DECRYPT,
-            Algorithm::Mac(_) => keys::MODE_MAC,
+            Algorithm::Cipher(_, Way::Encrypt) | Algorithm::Gcm(Way::Encrypt) => keys::MODE_ENCRYPT,
+            Algorithm::Cipher(_, Way::Decrypt) | Algorithm::Gcm(Way::Decrypt) => keys::MODE_DECRYPT,
+            Algorithm::Mac(_) | Algorithm::Cmac => keys::MODE_MAC,
             Algorithm::Digest(_) => keys::MODE_DIGEST,
         }
     }
@@ -113,7 +147,7 @@ impl Algorithm {
         ensures { result ≡ table.key_kind self }
     {
         match self {
-            Algorithm::Cipher(..) => Some(keys::KIND_AES),
+            Algorithm::Cipher(..) | Algorithm::Gcm(_) | Algorithm::Cmac => Some(keys::KIND_AES),
             Algorithm::Mac(Hash::Sha256) => Some(keys::KIND_HMAC_SHA256),
             Algorithm::Mac(Hash::Sha384) => Some(keys::KIND_HMAC_SHA384),
             Algorithm::Mac(Hash::Sha512) => Some(keys::KIND_HMAC_SHA512),
@@ -126,9 +160,11 @@ impl Algorithm {
         ensures { result ≡ table.usage_bit self }
     {
         match self {
-            Algorithm::Cipher(_, Way::Encrypt) => keys::USAGE_ENCRYPT,
-            Algorithm::Cipher(_, Way::Decrypt) => keys::USAGE_DECRYPT,
-            Algorithm::Mac(_) => keys::USAGE_MAC,
+            Algorithm::Cipher(_, Way::Encrypt) | Algorithm::Gcm(Way::Encrypt) =>
+                keys::USAGE_ENCRYPT,
+            Algorithm::Cipher(_, Way::Decrypt) | Algorithm::Gcm(Way::Decrypt) =>
+                keys::USAGE_DECRYPT,
+            Algorithm::Mac(_) | Algorithm::Cmac => keys::USAGE_MAC,
             Algorithm::Digest(_) => 0,
         }
     }

@@ -50,6 +50,18 @@ fn is_incomplete(stream: &Stream, bytes: &[u8]) -> bool
     matches!(trial.finish(bytes, &mut []), Err(ModeAnswer::Incomplete))
 }
 
+/// Memory for so many bytes.
+pub(crate) fn memory_of(alloc: Global, count: usize) -> Result<Vec<u8>, OpAnswer>
+    requires { count ≤ MAX_ASK_BYTES }
+    ensures ok { IfOk result (λ memory. length memory.items ≡ count) }
+    ensures err { IfErr result (λ answer. answer ≡ OpAnswer.NoMemory) }
+{
+    match vec![in alloc; 0; count] {
+        Ok(memory) => Ok(memory),
+        Err(_) => Err(OpAnswer::NoMemory),
+    }
+}
+
 /// Memory for so many bytes, where there is room for them.
 fn memory_for(alloc: Global, needed: usize, room: u32) -> Result<Vec<u8>, OpAnswer>
     requires { needed ≤ MAX_ASK_BYTES }
@@ -59,10 +71,7 @@ fn memory_for(alloc: Global, needed: usize, room: u32) -> Result<Vec<u8>, OpAnsw
     if needed > room as usize {
         return Err(OpAnswer::Short(needed as u32));
     }
-    match vec![in alloc; 0; needed] {
-        Ok(memory) => Ok(memory),
-        Err(_) => Err(OpAnswer::NoMemory),
-    }
+    memory_of(alloc, needed)
 }
 
 /// Takes more bytes of the stream's message, and gives the next part of its text.

@@ -2,6 +2,7 @@
 #![tactic(auto)]
 
 mod about;
+mod ae;
 mod algorithm;
 mod answer;
 mod cipher;
@@ -10,9 +11,11 @@ mod keys;
 mod mac;
 mod operation;
 mod random;
+mod sealed;
 
 pub use about::OpAbout;
 pub use algorithm::{Algorithm, algorithm_at};
 pub use answer::OpAnswer;
 pub use operation::Operation;
 pub use random::Stream;
+pub use sealed::OpSealed;

@@ -12,6 +12,7 @@ use crate::about::OpAbout;
 use crate::algorithm::{Algorithm, algorithm_at};
 use crate::answer::OpAnswer;
 use crate::keys::secret_fits;
+use ae_modes::{Cmac, Gcm};
 use aes_modes::Stream;
 use mac_digest::{Digester, Mac};
 use secret::{Secret, size_fits};
@@ -31,7 +32,9 @@ pub struct Operation {
 pub(crate) enum State {
     Initial,
     Cipher(Stream),
+    Gcm(Gcm),
     Mac(Mac),
+    Cmac(Cmac),
     Digest(Digester),
 }
 
@@ -43,7 +46,9 @@ impl State {
         match self {
             State::Initial => State::Initial,
             State::Cipher(stream) => State::Cipher(*stream),
+            State::Gcm(gcm) => State::Gcm(*gcm),
             State::Mac(mac) => State::Mac(mac.clone().unwrap()),
+            State::Cmac(code) => State::Cmac(*code),
             State::Digest(digester) => State::Digest(digester.clone().unwrap()),
         }
     }

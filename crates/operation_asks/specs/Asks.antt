@@ -157,6 +157,15 @@ operation_resolution s i (asked.DigestUpdate op bytes) =
     of_operations s (on_operation s.operations i op (asked.DigestUpdate op bytes))
 operation_resolution s i (asked.DigestFinal op bytes room) =
     of_operations s (on_operation s.operations i op (asked.DigestFinal op bytes room))
+operation_resolution s i (asked.AeInit op nonce tag_bits) =
+    of_operations s (on_operation s.operations i op (asked.AeInit op nonce tag_bits))
+operation_resolution s i (asked.AeAad op bytes) = of_operations s (on_operation s.operations i op (asked.AeAad op bytes))
+operation_resolution s i (asked.AeUpdate op bytes room) =
+    of_operations s (on_operation s.operations i op (asked.AeUpdate op bytes room))
+operation_resolution s i (asked.AeSeal op bytes room tag_room) =
+    of_operations s (on_operation s.operations i op (asked.AeSeal op bytes room tag_room))
+operation_resolution s i (asked.AeOpen op bytes room tag) =
+    of_operations s (on_operation s.operations i op (asked.AeOpen op bytes room tag))
 operation_resolution s i ask = Settled (panic_effect s)
 
 -- what comes of a resolution, where key_of is what the object of a number gives

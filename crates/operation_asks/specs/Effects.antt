@@ -6,6 +6,7 @@ use Rattle.app_api.specs.declared.ask.Answer.{Answer}
 use Rattle.app_api.specs.declared.ask.Answer.TheVariants as answers
 use Rattle.crypto_ops.specs.declared.answer.OpAnswer.{OpAnswer}
 use Rattle.crypto_ops.specs.declared.answer.OpAnswer.TheVariants.{NotSupported, Short, MacInvalid, Misuse, NoMemory}
+use Rattle.crypto_ops.specs.declared.sealed.OpSealed.{OpSealed}
 use Rattle.crypto_ops.specs.Operations.{CryptoOperation, after_ok}
 use Rattle.operation_asks.specs.declared.outcome.Outcome.{Outcome}
 use Rattle.operation_asks.specs.declared.outcome.Outcome.TheVariants.{Answered, Panicked}
@@ -52,6 +53,11 @@ told_done (Err answer) = told_refusal answer
 abbrev pub told_content : Result (List ℕ) OpAnswer → Outcome
 told_content (Ok content) = Answered (answers.Content content)
 told_content (Err answer) = told_refusal answer
+
+-- how the application is told of a call that gives a content and its tag
+abbrev pub told_sealed : Result OpSealed OpAnswer → Outcome
+told_sealed (Ok sealed) = Answered (answers.Sealed sealed.content sealed.tag)
+told_sealed (Err answer) = told_refusal answer
 
 -- the effect of a call that answers so, and leaves the new operation where it answers Ok, else the old one
 abbrev pub done_by : Result (Unit {0}) OpAnswer → CryptoOperation → CryptoOperation → Effect CryptoOperation

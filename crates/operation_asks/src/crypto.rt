@@ -72,6 +72,11 @@ impl Crypto {
             Ask::MacCompare { op, .. } => self.on_operation(alloc, instance, *op, ask),
             Ask::DigestUpdate { op, .. } => self.on_operation(alloc, instance, *op, ask),
             Ask::DigestFinal { op, .. } => self.on_operation(alloc, instance, *op, ask),
+            Ask::AeInit { op, .. } => self.on_operation(alloc, instance, *op, ask),
+            Ask::AeAad { op, .. } => self.on_operation(alloc, instance, *op, ask),
+            Ask::AeUpdate { op, .. } => self.on_operation(alloc, instance, *op, ask),
+            Ask::AeSeal { op, .. } => self.on_operation(alloc, instance, *op, ask),
+            Ask::AeOpen { op, .. } => self.on_operation(alloc, instance, *op, ask),
             _ => Ok(CryptoOutcome::Settled(Outcome::Panicked)),
         }
     }

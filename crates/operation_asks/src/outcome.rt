@@ -3,10 +3,11 @@
 ghost use Rattle.std.specs.Prelude.{◌≡◌, List, ℕ, IfOk, OnOk, OnErr, Result, Err};
 ghost use Rattle.crypto_ops.specs.declared.answer.OpAnswer.{OpAnswer};
 ghost use Rattle.crypto_ops.specs.Operations.{Answers};
-ghost use Rattle.operation_asks.specs.Effects.{told_refusal, told_done, told_content};
+ghost use Rattle.crypto_ops.specs.declared.sealed.OpSealed.{OpSealed};
+ghost use Rattle.operation_asks.specs.Effects.{told_refusal, told_done, told_content, told_sealed};
 
 use app_api::Answer;
-use crypto_ops::OpAnswer;
+use crypto_ops::{OpAnswer, OpSealed};
 use tee_base::{Bytes, Code, NoMemory};
 
 /// What comes of an ask.
@@ -73,6 +74,20 @@ pub(crate) fn told_content(answer: Result<Bytes, OpAnswer>) -> Result<Outcome, N
 {
     match answer {
         Ok(content) => Ok(Outcome::Answered(Answer::Content(content))),
+        Err(OpAnswer::NoMemory) => Err(NoMemory),
+        Err(answer) => Ok(told_refusal(answer)),
+    }
+}
+
+/// How an application is told of a call with a content and its tag.
+pub(crate) fn told_sealed(answer: Result<OpSealed, OpAnswer>) -> Result<Outcome, NoMemory>
+    ensures told { IfOk result (λ outcome. outcome ≡ told_sealed answer) }
+    ensures stated { (stated : Result OpSealed OpAnswer) → Answers answer stated
+        → OnOk result (answer ≡ stated) }
+    ensures want { OnErr result (answer ≡ Err OpAnswer.NoMemory) }
+{
+    match answer {
+        Ok(OpSealed { content, tag }) => Ok(Outcome::Answered(Answer::Sealed { content, tag })),
         Err(OpAnswer::NoMemory) => Err(NoMemory),
         Err(answer) => Ok(told_refusal(answer)),
     }
