@@ -13,7 +13,7 @@ use Rattle.tee_base.specs.declared.codes.TheConstants.Code.{ACCESS_DENIED, BAD_S
 use Rattle.example_pin.specs.declared.pin.Attempt.{Attempt}
 use Rattle.example_pin.specs.declared.pin.Pin.{Pin}
 use Rattle.example_pin.specs.declared.pin.Pin.TheVariants.{Idle, Setting, Opening, Reading, Seeking, Counting, Closing, Leaving}
-use Rattle.example_pin.specs.declared.pin.TheConstants.{MAX_PIN_BYTES, TRIES}
+use Rattle.example_pin.specs.PinCommands.{all_tries, most_bytes}
 
 -- the code of an answer that isn't the one hoped for
 unfoldable pub code_of : Answer → Code
@@ -38,12 +38,12 @@ keep_tries attempt = ask_for (Seeking attempt) (ObjSeek attempt.object (pos 0) 0
 
 -- 1: the new object
 unfoldable pub after_setting : Answer → Reaction Pin
-after_setting (Number object) = close object SUCCESS TRIES
+after_setting (Number object) = close object SUCCESS all_tries
 after_setting answer = end_with_refusal answer
 
 -- 2: the object, all of which is read
 unfoldable pub after_opening : List ℕ → Answer → Reaction Pin
-after_opening guess (Number object) = ask_for (Reading object guess) (ObjRead object (MAX_PIN_BYTES + 1))
+after_opening guess (Number object) = ask_for (Reading object guess) (ObjRead object (most_bytes + 1))
 after_opening guess answer = end_with_refusal answer
 
 -- 2: a try is taken, where one is left
@@ -71,7 +71,7 @@ after_seeking attempt answer = leave attempt.object (code_of answer)
 abbrev pub tell : Attempt → Reaction Pin
 tell attempt =
     if attempt.is_right then
-    if nat_lt attempt.tries TRIES then keep_tries (record attempt { tries = TRIES })
+    if nat_lt attempt.tries all_tries then keep_tries (record attempt { tries = all_tries })
     else close attempt.object SUCCESS attempt.tries
     else close attempt.object SECURITY attempt.tries
 

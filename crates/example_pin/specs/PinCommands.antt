@@ -8,22 +8,36 @@ use Rattle.app_kit.specs.declared.reaction.Reaction.{Reaction}
 use Rattle.tee_base.specs.declared.codes.TheConstants.Code.{BAD_PARAMETERS}
 use Rattle.example_pin.specs.declared.pin.Pin.{Pin}
 use Rattle.example_pin.specs.declared.pin.Pin.TheVariants.{Idle, Setting, Opening}
-use Rattle.example_pin.specs.declared.pin.TheConstants.{MAX_PIN_BYTES, TRIES}
-use Rattle.example_pin.specs.declared.commands.TheConstants.{PRIVATE_STORAGE, READ_WRITE}
+
+-- how many tries a new PIN has, and one that was guessed
+abbrev pub all_tries : ℕ
+all_tries = 3
+
+-- how many bytes a PIN has at most
+abbrev pub most_bytes : ℕ
+most_bytes = 16
+
+-- private storage
+abbrev pub private_storage : ℕ
+private_storage = 1
+
+-- flags: read and write, beside nobody, and over no object that is there
+abbrev pub read_write : ℕ
+read_write = 0x3
 
 -- the bytes may be a PIN
 abbrev pub may_be_pin : List ℕ → Bool
-may_be_pin bytes = nat_lt 0 (length bytes) && nat_le (length bytes) MAX_PIN_BYTES
+may_be_pin bytes = nat_lt 0 (length bytes) && nat_le (length bytes) most_bytes
 
 -- 1: a new object with all tries and the PIN
 abbrev pub set_pin : List ℕ → Reaction Pin
 set_pin pin =
-    if may_be_pin pin then ask_for Setting (ObjCreate PRIVATE_STORAGE (codes "pin") READ_WRITE 0 (TRIES ∷ pin))
+    if may_be_pin pin then ask_for Setting (ObjCreate private_storage (codes "pin") read_write 0 (all_tries ∷ pin))
     else fail_with Idle BAD_PARAMETERS
 
 -- 2: the object, for a guess
 abbrev pub try_pin : List ℕ → Reaction Pin
-try_pin guess = ask_for (Opening guess) (ObjOpen PRIVATE_STORAGE (codes "pin") READ_WRITE)
+try_pin guess = ask_for (Opening guess) (ObjOpen private_storage (codes "pin") read_write)
 
 -- the command of a number, which takes these bytes
 abbrev pub command_with : ℕ → List ℕ → Reaction Pin

@@ -14,10 +14,13 @@ use Rattle.std.proofs.lemmas.Option.{get_or_from_slice_get}
 use Rattle.std.proofs.lemmas.Str.Ascii.{IsAscii-from_all}
 use Rattle.hex.specs.Hex.{decode_of, encode_lower, IsBytes}
 use Rattle.hex.proofs.HexLemmas.{decode_of-encode_lower, decode_of-ok}
+use Rattle.uuid.specs.Text.{hyphenated_text, lower}
 use Rattle.tee_base.specs.declared.limits.TheConstants.{MAX_CLIENTS}
 use Rattle.app_api.specs.declared.call.Call.{Call}
 use Rattle.app_api.specs.declared.call.Call.TheVariants as calls
 use Rattle.app_api.specs.declared.host.Host.{Host}
+use Rattle.app_api.specs.declared.login.Login.{Login}
+use Rattle.app_api.specs.declared.login.Login.TheVariants.{Public, User, Group, App}
 use Rattle.app_api.specs.declared.param.Param.{Param}
 use Rattle.app_api.specs.declared.param.Param.TheVariants.{Nothing as NoParam, ValueIn, ValueOut, ValueInOut, MemIn, MemOut, MemInOut}
 use Rattle.app_api.specs.Hosts.{HostsFit, IsDigit, IsLowercase, IsName}
@@ -27,13 +30,14 @@ use Rattle.script.specs.declared.line.Line.{Line}
 use Rattle.script.specs.declared.line.Line.TheVariants as lines
 use Rattle.script.specs.declared.line.Meaning.{Meaning}
 use Rattle.script.specs.declared.line.Meaning.TheVariants.{Nothing, Client, Script}
-use Rattle.script.specs.Canonical.{are_none, behind_spaces, call_words, canonical, canonical_from, client_of, client_text, is_none, line_text, name_at, param_word, params_words}
+use Rattle.script.specs.Canonical.{are_none, behind_spaces, call_words, canonical, canonical_from, client_of, client_text, is_none, line_text, login_words, name_at, param_word, params_words}
 use Rattle.script.specs.Dialects.{Takes}
-use Rattle.script.specs.Grammar.{AreNext, HasNoLineFeed, IsCall, IsFirstLine, IsHost, IsLine, IsNext, IsSilent, Means, Place, Reads, lines_of, post_words, start_of}
+use Rattle.script.specs.Grammar.{AreNext, HasNoLineFeed, IsCall, IsFirstLine, IsHost, IsLine, IsLogin, IsNext, IsSilent, Means, Place, Reads, lines_of, post_words, start_of}
 use Rattle.script.specs.Words.{AreParams, AreWords, IsNumber32, IsParam, IsWord}
 use Rattle.script.proofs.Cuts.{all_append, all_weaker}
 use Rattle.script.proofs.Decimals.{IsGraphic, decimal_number, digits_part}
 use Rattle.script.proofs.HostWords.{mapped_get, named_at}
+use Rattle.script.proofs.LoginWords.{id_printed, id_word}
 use Rattle.script.proofs.ParamWords.{are_graphic, graphic_word, param_graphic}
 use Rattle.script.proofs.WordTexts.{word_alone, word_before}
 
@@ -147,12 +151,32 @@ number32_fits digits n h = omega (arith, h.1)
 number32_printed : (digits : List ℕ) (n : ℕ) → IsNumber32 digits n → IsNumber32 (decimal n) n
 number32_printed digits n h = (decimal_number n (number32_fits digits n h), h.1)
 
+front_ink : (front rest : List ℕ) → are_graphic (front) ≡ true → IsInk rest → IsInk (front ++ rest)
+front_ink [] rest e h = h
+front_ink (c ∷ cs) rest e h = ((λ none. cc), all_append IsGraphic (c ∷ cs) rest (graphic_word (c ∷ cs) e) h.1)
+
+login_printed : (words : List (List ℕ)) (login : Login) → IsLogin words login → IsLogin (login_words login) login × AllByRecursion IsInk (login_words login)
+login_printed words Public h = (refl, tt)
+login_printed words (User n) h =
+    ((decimal n, number32_printed h.0 n h.1, refl), (front_ink (codes "user:") (decimal n) refl (decimal_ink n (number32_fits h.0 n h.1)), tt))
+login_printed words (Group n) h =
+    ((decimal n, number32_printed h.0 n h.1, refl), (front_ink (codes "group:") (decimal n) refl (decimal_ink n (number32_fits h.0 n h.1)), tt))
+login_printed words (App id) h =
+    ((hyphenated_text lower id, id_printed h.0 id h.1, refl), (front_ink (codes "app:") (hyphenated_text lower id) refl (id_word id), tt))
+
 call_printed : (words : List (List ℕ)) (call : Call) (fill : ℕ) → IsCall words call fill → IsCall (call_words call) call 0 × AllByRecursion IsInk (call_words call)
 unfolding IsCall
-call_printed words (calls.Open label params) fill h =
-    let each = can_print_each h.1 (params_of params) fill h.3 in (
-      (decimal label, params_words (params_of params), number32_printed h.0 label h.2, params_printed (params_of params) each, refl),
-      (literal 111 (codes "pen") refl, (decimal_ink label (number32_fits h.0 label h.2), params_ink (params_of params) each)),
+call_printed words (calls.Open label login params) fill h =
+    let who = login_printed h.1 login h.4 in
+    let each = can_print_each h.2 (params_of params) fill h.5 in (
+      (decimal label, login_words login, params_words (params_of params), number32_printed h.0 label h.3, who.0, params_printed (params_of params) each, refl),
+      (
+        literal 111 (codes "pen") refl,
+        (
+          decimal_ink label (number32_fits h.0 label h.3),
+          all_append IsInk (login_words login) (params_words (params_of params)) who.1 (params_ink (params_of params) each),
+        ),
+      ),
     )
 call_printed words (calls.Invoke label command params) fill h =
     let each = can_print_each h.2 (params_of params) fill h.5 in (

@@ -4,6 +4,7 @@ pub mod HexDigits
 pub mod ParamWords
 pub mod WordTexts
 pub mod HostWords
+pub mod LoginWords
 pub mod LineMeanings
 pub mod Places
 pub mod ScriptTexts

@@ -1,6 +1,7 @@
 -- What a line means, by the grammar and as it is computed.
 use Rattle.std.proofs.Common.{◌≡◌, ℕ, ◌-◌, ◌^◌, ◌<◌, ◌≤◌, Bool, true, false, List, [], ◌∷◌, ◌++◌, Option, Some, None, refl, sym, ap, subst, ◌∙◌, arith, inl, inr}
 use Rattle.std.specs.Prelude.{codes}
+use Rattle.std.specs.List.{AllByRecursion}
 use Rattle.std.specs.Str.{IsAscii, bytes_eq}
 use Rattle.std.proofs.lemmas.Bool.{eqb-true, false_from_ne_true}
 use Rattle.std.proofs.lemmas.Option.{none-some, same_Some}
@@ -8,34 +9,54 @@ use Rattle.tee_base.specs.declared.limits.TheConstants.{MAX_CLIENTS, MAX_FUSE_CA
 use Rattle.app_api.specs.declared.call.Call.{Call}
 use Rattle.app_api.specs.declared.call.Call.TheVariants as calls
 use Rattle.app_api.specs.declared.host.Host.{Host}
+use Rattle.app_api.specs.declared.login.Login.{Login}
+use Rattle.app_api.specs.declared.login.Login.TheVariants.{Public, User, Group, App}
+use Rattle.app_api.specs.declared.param.Params.{Params}
 use Rattle.app_api.specs.Hosts.{HostsFit}
+use Rattle.app_api.specs.Params.{params_of}
 use Rattle.script.specs.declared.line.Line.{Line}
 use Rattle.script.specs.declared.line.Line.TheVariants as lines
 use Rattle.script.specs.declared.line.Meaning.{Meaning}
 use Rattle.script.specs.declared.line.Meaning.TheVariants.{Nothing, Client, Script}
 use Rattle.script.specs.declared.line.ReadCall.{ReadCall}
 use Rattle.script.specs.declared.line.ReadMeaning.{ReadMeaning}
-use Rattle.script.specs.Grammar.{IsCall, IsHost, IsLine, IsSilent, Means, post_words}
+use Rattle.script.specs.Grammar.{IsCall, IsHost, IsLine, IsLogin, IsSilent, Means, post_words}
 use Rattle.script.specs.Lines.{all_ascii, app_line, board_line, call_line, call_of, cancel_line, client_line, closed_by, host_at, invoked_by}
-use Rattle.script.specs.Lines.{is_silent, meaning_of, meaning_of_words, opened_by, plain_line, turns_line, words_of}
+use Rattle.script.specs.Lines.{is_silent, login_in, meaning_of, meaning_of_words, opened_as, opened_by, opened_with, plain_line, turns_line, words_of}
 use Rattle.script.specs.Numbers.{number_of, number32_of, within}
 use Rattle.script.specs.Parameters.{parameters_of}
-use Rattle.script.specs.Words.{AreWords, IsNumber}
+use Rattle.script.specs.Words.{AreParams, AreWords, IsNumber, IsNumber32}
 use Rattle.script.proofs.Decimals.{number32_again, number32_reads, number_again, number_reads, within_again, within_reads}
 use Rattle.script.proofs.HexDigits.{chosen}
 use Rattle.script.proofs.HostWords.{host_again, host_reads, not_board, not_client}
+use Rattle.script.proofs.LoginWords.{Says, app_again as application_again, group_again, login_reads, param_again, user_again}
 use Rattle.script.proofs.ParamWords.{is_word, parameters_again, parameters_read, some_bind}
-use Rattle.script.proofs.WordTexts.{ascii_again, ascii_reads, first_ascii, words_again, words_read}
+use Rattle.script.proofs.WordTexts.{IsAsciiWord, ascii_again, ascii_reads, words_again, words_ascii, words_read}
 
 -- ---- what is read as a call is its words
 
+opened_reads : (verb label : List ℕ) (who words : List (List ℕ)) (l : ℕ) (login : Login) (read : ReadCall) → verb ≡ codes "open" → IsNumber32 label l → IsLogin who login
+    → opened_as l login words ≡ Some read → IsCall (verb ∷ label ∷ who ++ words) read.call read.fills
+unfolding opened_as IsCall
+opened_reads verb label who words l login read v number is e =
+    let all = some_bind (parameters_of words) _ read e in
+    subst (λ (r : ReadCall). IsCall (verb ∷ label ∷ who ++ words) r.call r.fills) (same_Some (record { call = calls.Open l login all.0.params; fills = all.0.fills }) read all.2)
+    (label, who, words, number, is, parameters_read words all.0 all.1, ap (λ (w : List ℕ). w ∷ label ∷ who ++ words) v)
+
+with_reads : (verb label word : List ℕ) (words : List (List ℕ)) (l : ℕ) (said : Option Login) (read : ReadCall) → verb ≡ codes "open" → IsNumber32 label l → Says word said
+    → opened_with l said word words ≡ Some read → IsCall (verb ∷ label ∷ word ∷ words) read.call read.fills
+with_reads verb label word words l None read v number says e = opened_reads verb label [] (word ∷ words) l Public read v number refl e
+with_reads verb label word words l (Some login) read v number says e = opened_reads verb label (word ∷ []) words l login read v number says e
+
 open_reads : (verb label : List ℕ) (words : List (List ℕ)) (read : ReadCall) → verb ≡ codes "open" → opened_by label words ≡ Some read → IsCall (verb ∷ label ∷ words) read.call read.fills
-unfolding opened_by IsCall
-open_reads verb label words read v e =
+unfolding opened_by
+open_reads verb label [] read v e =
     let l = some_bind (number32_of label) _ read e in
-    let all = some_bind (parameters_of words) _ read l.2 in
-    subst (λ (r : ReadCall). IsCall (verb ∷ label ∷ words) r.call r.fills) (same_Some (record { call = calls.Open l.0 all.0.params; fills = all.0.fills }) read all.2)
-    (label, words, number32_reads label l.0 l.1, parameters_read words all.0 all.1, ap (λ (w : List ℕ). w ∷ label ∷ words) v)
+    opened_reads verb label [] [] l.0 Public read v (number32_reads label l.0 l.1) refl l.2
+open_reads verb label (word ∷ words) read v e =
+    let l = some_bind (number32_of label) _ read e in
+    let said = some_bind (login_in word) _ read l.2 in
+    with_reads verb label word words l.0 said.0 read v (number32_reads label l.0 l.1) (login_reads word said.0 said.1) said.2
 
 invoke_reads : (verb label : List ℕ) (words : List (List ℕ)) (read : ReadCall) → verb ≡ codes "invoke" → invoked_by label words ≡ Some read → IsCall (verb ∷ label ∷ words) read.call read.fills
 unfolding invoked_by IsCall
@@ -73,16 +94,49 @@ call_reads (verb ∷ label ∷ words) read e =
 
 -- ---- the words of a call are read as it
 
-call_again : (words : List (List ℕ)) (call : Call) (fill : ℕ) → IsCall words call fill → call_of words ≡ Some (record { call = call; fills = fill })
-unfolding call_of opened_by invoked_by closed_by IsCall
-call_again words (calls.Open label params) fill h = ap call_of h.4 ∙ rw (number32_again h.0 label h.2, parameters_again h.1 params fill h.3) refl
-call_again words (calls.Invoke label command params) fill h = ap call_of h.6 ∙ rw (number32_again h.0 label h.3, number32_again h.1 command h.4, parameters_again h.2 params fill h.5) refl
-call_again words (calls.Close label) fill h = ap call_of h.2 ∙ rw (number32_again h.0 label h.1, h.3) refl
+-- the words after the label of an open are read as its login and its parameters
+abbrev IsOpened : List ℕ → List (List ℕ) → ℕ → Login → Params → ℕ → Type 0
+IsOpened label words l login params fill = opened_by label words ≡ Some (record { call = calls.Open l login params; fills = fill })
+
+said_again : (label word : List ℕ) (others : List (List ℕ)) (l : ℕ) (login : Login) (params : Params) (fill : ℕ) → IsNumber32 label l → login_in word ≡ Some (Some login)
+    → AreParams others (params_of params) fill → IsOpened label (word ∷ others) l login params fill
+unfolding opened_by opened_as
+said_again label word others l login params fill number says given = rw (number32_again label l number, says, parameters_again others params fill given) refl
+
+public_again : (label : List ℕ) (others : List (List ℕ)) (l : ℕ) (params : Params) (fill : ℕ) → IsNumber32 label l → AreParams others (params_of params) fill
+    → IsOpened label others l Public params fill
+unfolding opened_by opened_as AreParams
+public_again label [] l params fill number given = rw (number32_again label l number, parameters_again [] params fill given) refl
+public_again label (word ∷ others) l params fill number given =
+    rw (number32_again label l number, param_again word params.p0 given.0 given.2, parameters_again (word ∷ others) params fill given) refl
+
+opened_again : (label : List ℕ) (who others : List (List ℕ)) (l : ℕ) (login : Login) (params : Params) (fill : ℕ) → IsNumber32 label l → IsLogin who login
+    → AllByRecursion IsAsciiWord (who ++ others) → AreParams others (params_of params) fill → IsOpened label (who ++ others) l login params fill
+opened_again label who others l Public params fill number is ascii given =
+    ap (λ (ws : List (List ℕ)). opened_by label (ws ++ others)) is ∙ public_again label others l params fill number given
+opened_again label who others l (User n) params fill number is ascii given =
+    ap (λ (ws : List (List ℕ)). opened_by label (ws ++ others)) is.2
+    ∙ said_again label (codes "user:" ++ is.0) others l (User n) params fill number (user_again is.0 n is.1) given
+opened_again label who others l (Group n) params fill number is ascii given =
+    ap (λ (ws : List (List ℕ)). opened_by label (ws ++ others)) is.2
+    ∙ said_again label (codes "group:" ++ is.0) others l (Group n) params fill number (group_again is.0 n is.1) given
+opened_again label who others l (App id) params fill number is ascii given =
+    let each : AllByRecursion IsAsciiWord ((codes "app:" ++ is.0) ∷ others) = subst (λ (ws : List (List ℕ)). AllByRecursion IsAsciiWord (ws ++ others)) is.2 ascii in
+    ap (λ (ws : List (List ℕ)). opened_by label (ws ++ others)) is.2
+    ∙ said_again label (codes "app:" ++ is.0) others l (App id) params fill number (application_again is.0 id each.0 is.1) given
+
+call_again : (words : List (List ℕ)) (call : Call) (fill : ℕ) → AllByRecursion IsAsciiWord words → IsCall words call fill → call_of words ≡ Some (record { call = call; fills = fill })
+unfolding call_of invoked_by closed_by IsCall
+call_again words (calls.Open label login params) fill ascii h =
+    let each : AllByRecursion IsAsciiWord (codes "open" ∷ h.0 ∷ h.1 ++ h.2) = subst (AllByRecursion IsAsciiWord) h.6 ascii in
+    ap call_of h.6 ∙ opened_again h.0 h.1 h.2 label login params fill h.3 h.4 each.1.1 h.5
+call_again words (calls.Invoke label command params) fill ascii h = ap call_of h.6 ∙ rw (number32_again h.0 label h.3, number32_again h.1 command h.4, parameters_again h.2 params fill h.5) refl
+call_again words (calls.Close label) fill ascii h = ap call_of h.2 ∙ rw (number32_again h.0 label h.1, h.3) refl
 
 -- a call's first word is no other verb
 call_verb : (client app : ℕ) (words : List (List ℕ)) (call : Call) (fill : ℕ) → IsCall words call fill → app_line client app words ≡ call_line client app false words
 unfolding app_line IsCall
-call_verb client app words (calls.Open label params) fill h = ap (app_line client app) h.4 ∙ ap (call_line client app false) (sym h.4)
+call_verb client app words (calls.Open label login params) fill h = ap (app_line client app) h.6 ∙ ap (call_line client app false) (sym h.6)
 call_verb client app words (calls.Invoke label command params) fill h = ap (app_line client app) h.6 ∙ ap (call_line client app false) (sym h.6)
 call_verb client app words (calls.Close label) fill h = ap (app_line client app) h.2 ∙ ap (call_line client app false) (sym h.2)
 
@@ -244,11 +298,11 @@ app_again : {A : Type 0} (hosts : List (Host A)) (client app : ℕ) (name : List
 unfolding meaning_of_words
 app_again hosts client app name words fit host ascii = rw (not_client hosts name app fit host, not_board hosts name app fit host, host_again hosts name app fit host ascii) refl
 
-call_line_again : (client app : ℕ) (post : Bool) (words : List (List ℕ)) (call : Call) (fill : ℕ) → IsCall words call fill
+call_line_again : (client app : ℕ) (post : Bool) (words : List (List ℕ)) (call : Call) (fill : ℕ) → AllByRecursion IsAsciiWord (post_words post ++ words) → IsCall words call fill
     → app_line client app (post_words post ++ words) ≡ Some (record { meaning = Script (lines.Call app client post call); fills = fill })
 unfolding app_line call_line
-call_line_again client app true words call fill h = rw (call_again words call fill h) refl
-call_line_again client app false words call fill h = call_verb client app words call fill h ∙ rw (call_again words call fill h) refl
+call_line_again client app true words call fill ascii h = rw (call_again words call fill ascii.1 h) refl
+call_line_again client app false words call fill ascii h = call_verb client app words call fill h ∙ rw (call_again words call fill ascii h) refl
 
 turns_again : (client app instance count : ℕ) (a b : List ℕ) → IsNumber a instance → IsNumber b count → 1 ≤ instance → instance ≤ MAX_INSTANCES → 1 ≤ count → count ≤ MAX_LINE_TURNS
     → app_line client app (codes "turn" ∷ a ∷ b ∷ []) ≡ Some (plain_line (lines.Turns app client instance count))
@@ -285,19 +339,20 @@ line_again : {A : Type 0} (hosts : List (Host A)) (client : ℕ) (line : List �
     → meaning_of_words hosts client words ≡ Some (record { meaning = Script told; fills = fill })
 unfolding IsLine
 line_again hosts client line words (lines.Call app owner post call) fill fit ascii are h =
+    let each = words_ascii line (h.1 ∷ post_words post ++ h.2) (subst (AreWords line) h.5 are) ascii in
     ap (meaning_of_words hosts client) h.5
-    ∙ app_again hosts client app h.1 (post_words post ++ h.2) fit h.3 (first_ascii line h.1 (post_words post ++ h.2) (subst (AreWords line) h.5 are) ascii)
-    ∙ call_line_again client app post h.2 call fill h.4
+    ∙ app_again hosts client app h.1 (post_words post ++ h.2) fit h.3 each.0
+    ∙ call_line_again client app post h.2 call fill each.1 h.4
     ∙ ap (λ (c : ℕ). Some (record { meaning = Script (lines.Call app c post call); fills = fill })) (sym h.0)
 line_again hosts client line words (lines.Turns app owner instance count) fill fit ascii are h =
     ap (meaning_of_words hosts client) h.11
-    ∙ app_again hosts client app h.1 (codes "turn" ∷ h.2 ∷ h.3 ∷ []) fit h.4 (first_ascii line h.1 (codes "turn" ∷ h.2 ∷ h.3 ∷ []) (subst (AreWords line) h.11 are) ascii)
+    ∙ app_again hosts client app h.1 (codes "turn" ∷ h.2 ∷ h.3 ∷ []) fit h.4 (words_ascii line (h.1 ∷ codes "turn" ∷ h.2 ∷ h.3 ∷ []) (subst (AreWords line) h.11 are) ascii).0
     ∙ turns_again client app instance count h.2 h.3 h.5 h.6 h.7 h.8 h.9 h.10
     ∙ ap (λ (c : ℕ). Some (plain_line (lines.Turns app c instance count))) (sym h.0)
     ∙ with_fill (Script (lines.Turns app owner instance count)) fill h.12
 line_again hosts client line words (lines.Cancel app owner op) fill fit ascii are h =
     ap (meaning_of_words hosts client) h.6
-    ∙ app_again hosts client app h.1 (codes "cancel" ∷ h.2 ∷ []) fit h.3 (first_ascii line h.1 (codes "cancel" ∷ h.2 ∷ []) (subst (AreWords line) h.6 are) ascii)
+    ∙ app_again hosts client app h.1 (codes "cancel" ∷ h.2 ∷ []) fit h.3 (words_ascii line (h.1 ∷ codes "cancel" ∷ h.2 ∷ []) (subst (AreWords line) h.6 are) ascii).0
     ∙ cancel_again client app op h.2 h.4 h.5
     ∙ ap (λ (c : ℕ). Some (plain_line (lines.Cancel app c op))) (sym h.0)
     ∙ with_fill (Script (lines.Cancel app owner op)) fill h.7

@@ -126,3 +126,17 @@ first_ascii text word (next ∷ words) h ascii =
     let each = ascii_each (h.0 ++ word ++ codes " " ++ h.1) (sym (ap all_ascii h.5) ∙ ascii) in
     let front = (all_split (λ c. c < 128) (h.0 ++ word ++ codes " ") h.1 each).0 in
     each_ascii word (all_split (λ c. c < 128) h.0 word (all_split (λ c. c < 128) (h.0 ++ word) (codes " ") front).0).1
+
+-- the word is ASCII
+abbrev pub IsAsciiWord : List ℕ → Type 0
+IsAsciiWord word = all_ascii word ≡ true
+
+-- each word of an ASCII line is ASCII
+pub words_ascii : (text : List ℕ) (words : List (List ℕ)) → AreWords text words → all_ascii text ≡ true → AllByRecursion IsAsciiWord words
+unfolding AreWords
+words_ascii text [] h ascii = tt
+words_ascii text (word ∷ []) h ascii = (first_ascii text word [] h ascii, tt)
+words_ascii text (word ∷ next ∷ words) h ascii =
+    let each = ascii_each (h.0 ++ word ++ codes " " ++ h.1) (sym (ap all_ascii h.5) ∙ ascii) in
+    let rest = (all_split (λ c. c < 128) (h.0 ++ word ++ codes " ") h.1 each).1 in
+    (first_ascii text word (next ∷ words) h ascii, words_ascii h.1 (next ∷ words) h.4 (each_ascii h.1 rest))

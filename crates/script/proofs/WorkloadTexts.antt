@@ -10,6 +10,7 @@ use Rattle.hex.proofs.HexLemmas.{decode_of-encode_lower}
 use Rattle.app_api.specs.declared.call.Call.{Call}
 use Rattle.app_api.specs.declared.call.Call.TheVariants as calls
 use Rattle.app_api.specs.declared.host.Host.{Host}
+use Rattle.app_api.specs.declared.login.Login.TheVariants.{Public}
 use Rattle.app_api.specs.declared.param.Param.TheVariants.{Nothing, ValueIn, ValueOut}
 use Rattle.app_api.specs.declared.param.Params.{Params}
 use Rattle.app_api.specs.Hosts.{HostsFit}
@@ -51,9 +52,9 @@ byte_prints n = inl ((encode_lower (n % 256 ∷ []), decode_of-encode_lower (n %
 IsPrintable : Call → Type 0
 IsPrintable call = IsCall (call_words call) call 0
 
-opens : (label : ℕ) → label < 2 ^ 32 → IsPrintable (calls.Open label no_params)
+opens : (label : ℕ) → label < 2 ^ 32 → IsPrintable (calls.Open label Public no_params)
 unfolding IsPrintable IsCall
-opens label small = (decimal label, [], number32 label small, params_printed (params_of no_params) (none_prints, (none_prints, (none_prints, (none_prints, tt)))), refl)
+opens label small = (decimal label, [], [], number32 label small, refl, params_printed (params_of no_params) (none_prints, (none_prints, (none_prints, (none_prints, tt)))), refl)
 
 invokes : (label command : ℕ) (given : Params) → label < 2 ^ 32 → command < 2 ^ 32 → AllByRecursion CanPrint (params_of given) → IsPrintable (calls.Invoke label command given)
 unfolding IsPrintable IsCall
@@ -103,7 +104,7 @@ module _ {A : Type 0} (hosts : List (Host A)) (fit : HostsFit hosts) where
   line_stands : (d : Drawn) → d.app < length hosts → d.label < 2 ^ 32 → d.command < 2 ^ 32 → CanStand hosts (line_of d)
   line_stands d known label command = by_open (nat_lt d.kind 2) (nat_lt d.kind 4) (d.kind == 4) (d.kind == 5) (d.kind == 6)
     where
-      by_open : (open_ invoke value create close : Bool) → CanStand hosts (cond open_ (call_line d.app (calls.Open d.label no_params)) (cond invoke
+      by_open : (open_ invoke value create close : Bool) → CanStand hosts (cond open_ (call_line d.app (calls.Open d.label Public no_params)) (cond invoke
           (call_line d.app (calls.Invoke d.label d.command (params (byte d.first) (ValueIn (d.second % 8) (d.second % 64)) ValueOut Nothing))) (cond value
           (call_line d.app (calls.Invoke d.label d.command (params (ValueIn (d.first % 4) (d.second % 64)) ValueOut Nothing Nothing))) (cond create
           (call_line d.app (calls.Invoke d.label CREATE (params (byte d.first) (ValueIn (OVERWRITE + d.second % 8) 0) (byte d.first) ValueOut))) (cond close

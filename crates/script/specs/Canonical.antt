@@ -6,12 +6,15 @@ use Rattle.hex.specs.Hex.{encode_lower}
 use Rattle.app_api.specs.declared.call.Call.{Call}
 use Rattle.app_api.specs.declared.call.Call.TheVariants as calls
 use Rattle.app_api.specs.declared.host.Host.{Host}
+use Rattle.app_api.specs.declared.login.Login.{Login}
+use Rattle.app_api.specs.declared.login.Login.TheVariants.{Public, User, Group, App}
 use Rattle.app_api.specs.declared.param.Param.{Param}
 use Rattle.app_api.specs.declared.param.Param.TheVariants.{Nothing, ValueIn, ValueOut, ValueInOut, MemIn, MemOut, MemInOut}
 use Rattle.app_api.specs.Params.{params_of}
 use Rattle.script.specs.declared.line.Line.{Line}
 use Rattle.script.specs.declared.line.Line.TheVariants as lines
 use Rattle.script.specs.Grammar.{names_of, post_words}
+use Rattle.uuid.specs.Text.{hyphenated_text, lower}
 
 -- numbers have no zeros before them, bytes have lower-case digits, and every memory input is in its digits
 abbrev pub param_word : Param → List ℕ
@@ -43,9 +46,16 @@ abbrev pub params_words : List Param → List (List ℕ)
 params_words [] = []
 params_words (param ∷ params) = if are_none (param ∷ params) then [] else param_word param ∷ params_words params
 
+-- the word of a login, whose identifier has hyphens and lower-case digits; a public one has none
+abbrev pub login_words : Login → List (List ℕ)
+login_words Public = []
+login_words (User number) = (codes "user:" ++ decimal number) ∷ []
+login_words (Group number) = (codes "group:" ++ decimal number) ∷ []
+login_words (App id) = (codes "app:" ++ hyphenated_text lower id) ∷ []
+
 -- the words of a call
 abbrev pub call_words : Call → List (List ℕ)
-call_words (calls.Open label params) = codes "open" ∷ decimal label ∷ params_words (params_of params)
+call_words (calls.Open label login params) = codes "open" ∷ decimal label ∷ login_words login ++ params_words (params_of params)
 call_words (calls.Invoke label command params) = codes "invoke" ∷ decimal label ∷ decimal command ∷ params_words (params_of params)
 call_words (calls.Close label) = codes "close" ∷ decimal label ∷ []
 

@@ -8,6 +8,8 @@ use Rattle.tee_base.specs.declared.limits.TheConstants.{MAX_CLIENTS, MAX_FILL_BY
 use Rattle.app_api.specs.declared.call.Call.{Call}
 use Rattle.app_api.specs.declared.call.Call.TheVariants as calls
 use Rattle.app_api.specs.declared.host.Host.{Host}
+use Rattle.app_api.specs.declared.login.Login.{Login}
+use Rattle.app_api.specs.declared.login.Login.TheVariants.{Public, User, Group, App}
 use Rattle.app_api.specs.Params.{params_of}
 use Rattle.script.specs.declared.dialect.Dialect.{Dialect}
 use Rattle.script.specs.declared.line.Line.{Line}
@@ -26,11 +28,18 @@ names_of hosts = map (λ host. host.name) hosts
 abbrev pub IsHost : {A : Type 0} → List (Host A) → List ℕ → ℕ → Type 0
 IsHost {A} hosts word app = (host : Host A) × (slice_get hosts app ≡ Some host) × ((word ≡ host.name) ⊎ (parsed word ≡ Some host.id))
 
+-- who a client says that it is: no word for a public login, and one for another, whose identifier is a text that `uuid` parses
+abbrev pub IsLogin : List (List ℕ) → Login → Type 0
+IsLogin words Public = words ≡ []
+IsLogin words (User number) = (digits : List ℕ) × IsNumber32 digits number × (words ≡ (codes "user:" ++ digits) ∷ [])
+IsLogin words (Group number) = (digits : List ℕ) × IsNumber32 digits number × (words ≡ (codes "group:" ++ digits) ∷ [])
+IsLogin words (App id) = (text : List ℕ) × (parsed text ≡ Some id) × (words ≡ (codes "app:" ++ text) ∷ [])
+
 -- the words of a call, for whose parameters so many bytes are filled in
 unfoldable pub IsCall : List (List ℕ) → Call → ℕ → Type 0
-IsCall words (calls.Open label params) fill =
-    (session : List ℕ) × (others : List (List ℕ)) × IsNumber32 session label × AreParams others (params_of params) fill
-    × (words ≡ codes "open" ∷ session ∷ others)
+IsCall words (calls.Open label login params) fill =
+    (session : List ℕ) × (who others : List (List ℕ)) × IsNumber32 session label × IsLogin who login
+    × AreParams others (params_of params) fill × (words ≡ codes "open" ∷ session ∷ who ++ others)
 IsCall words (calls.Invoke label command params) fill =
     (session number : List ℕ) × (others : List (List ℕ)) × IsNumber32 session label × IsNumber32 number command × AreParams others (params_of params) fill
     × (words ≡ codes "invoke" ∷ session ∷ number ∷ others)

@@ -1,11 +1,13 @@
 -- What a line means, as it is computed from its words.
-use Rattle.std.specs.Prelude.{ℕ, ◌==◌, ◌+◌, ◌-◌, Bool, true, false, not, nat_lt, List, [], ◌∷◌, Option, None, Some, codes, if◌then◌else◌, length, map}
+use Rattle.std.specs.Prelude.{ℕ, ◌==◌, ◌+◌, ◌-◌, Bool, true, false, not, nat_lt, List, [], ◌∷◌, Option, None, Some, codes, drop, if◌then◌else◌, length, map, take}
 use Rattle.std.specs.List.{filter, list_all, slice_split}
 use Rattle.std.specs.Str.{bytes_eq}
 use Rattle.uuid.specs.Text.{parsed}
 use Rattle.tee_base.specs.declared.limits.TheConstants.{MAX_CLIENTS, MAX_FUSE_CALLS, MAX_INSTANCES, MAX_LINE_TURNS}
 use Rattle.app_api.specs.declared.call.Call.TheVariants as calls
 use Rattle.app_api.specs.declared.host.Host.{Host}
+use Rattle.app_api.specs.declared.login.Login.{Login}
+use Rattle.app_api.specs.declared.login.Login.TheVariants.{Public, User, Group, App}
 use Rattle.script.specs.declared.line.Line.{Line}
 use Rattle.script.specs.declared.line.Line.TheVariants as lines
 use Rattle.script.specs.declared.line.Meaning.TheVariants.{Nothing, Client, Script}
@@ -50,12 +52,40 @@ id_at hosts (Some id) = index_from 0 (map (λ host. host.id) hosts) id
 abbrev pub host_at : {A : Type 0} → List (Host A) → List ℕ → Option ℕ
 host_at hosts word = or_else (index_from 0 (map (λ host. host.name) hosts) word) (id_at hosts (id_of word))
 
--- an open: its parameters stand behind the label
-unfoldable pub opened_by : List ℕ → List (List ℕ) → Option ReadCall
-opened_by label words = do
-  l ← number32_of label
+-- the word begins so
+abbrev pub begins_with : List ℕ → List ℕ → Bool
+begins_with front word = bytes_eq (take (length front) word) front
+
+-- what stands in the word after its front
+abbrev pub rest_after : List ℕ → List ℕ → List ℕ
+rest_after front word = drop (length front) word
+
+-- the login that a word says, or that it says none; a word that begins as one has to be one
+unfoldable pub login_in : List ℕ → Option (Option Login)
+login_in word =
+    if begins_with (codes "user:") word then (number32_of (rest_after (codes "user:") word) >>= λ n. Some (Some (User n)))
+    else if begins_with (codes "group:") word then (number32_of (rest_after (codes "group:") word) >>= λ n. Some (Some (Group n)))
+    else if begins_with (codes "app:") word then (id_of (rest_after (codes "app:") word) >>= λ id. Some (Some (App id)))
+    else Some None
+
+-- an open by this login, with the parameters of these words
+unfoldable pub opened_as : ℕ → Login → List (List ℕ) → Option ReadCall
+opened_as label login words = do
   all ← parameters_of words
-  Some (record { call = calls.Open l all.params; fills = all.fills })
+  Some (record { call = calls.Open label login all.params; fills = all.fills })
+
+-- the same where this is what the first word says of a login; where it says none, it is a parameter's
+abbrev pub opened_with : ℕ → Option Login → List ℕ → List (List ℕ) → Option ReadCall
+opened_with label (Some login) word words = opened_as label login words
+opened_with label None word words = opened_as label Public (word ∷ words)
+
+-- an open: a login, if there is one, and its parameters stand after the label
+unfoldable pub opened_by : List ℕ → List (List ℕ) → Option ReadCall
+opened_by label [] = number32_of label >>= λ l. opened_as l Public []
+opened_by label (word ∷ words) = do
+  l ← number32_of label
+  login ← login_in word
+  opened_with l login word words
 
 -- an invoke: its command and its parameters stand behind the label
 unfoldable pub invoked_by : List ℕ → List (List ℕ) → Option ReadCall

@@ -3,6 +3,7 @@ use Rattle.std.specs.Prelude.{ℕ, zero, suc, ◌+◌, ◌*◌, ◌/◌, ◌%◌
 use Rattle.std.specs.List.{range_with_len}
 use Rattle.app_api.specs.declared.call.Call.{Call}
 use Rattle.app_api.specs.declared.call.Call.TheVariants.{Open, Invoke, Close}
+use Rattle.app_api.specs.declared.login.Login.TheVariants.{Public}
 use Rattle.app_api.specs.declared.param.Param.{Param}
 use Rattle.app_api.specs.declared.param.Param.TheVariants.{Nothing, ValueIn, ValueOut, MemIn}
 use Rattle.app_api.specs.declared.param.Params.{Params}
@@ -51,7 +52,7 @@ call_line app call = lines.Call app CLIENT false call
 -- the line of what was drawn, by its kind
 abbrev pub line_of : Drawn → Line
 line_of d =
-    if nat_lt d.kind 2 then call_line d.app (Open d.label no_params) else
+    if nat_lt d.kind 2 then call_line d.app (Open d.label Public no_params) else
     if nat_lt d.kind 4 then call_line d.app (Invoke d.label d.command
     (params (byte d.first) (ValueIn (d.second % 8) (d.second % 64)) ValueOut Nothing)) else
     if d.kind == 4 then call_line d.app (Invoke d.label d.command

@@ -9,9 +9,10 @@ ghost use Rattle.script.specs.declared.dialect.Dialect.TheVariants.{Whole};
 use crate::line::Line;
 use crate::script::Script;
 use crate::text::Text;
-use app_api::{Application, Call, Host, Param, Params};
+use app_api::{Application, Call, Host, Login, Param, Params};
 use std::alloc::Global;
 use tee_base::{Bytes, NoMemory};
+use uuid::Uuid;
 
 fn is_none(param: &Param) -> bool
     ensures { result ≡ is_none param.now }
@@ -23,7 +24,7 @@ impl Text {
     ghost use Rattle.std.specs.Prelude.{◌≡◌, ◌++◌, ◌∷◌, [], OnOk, codes, if◌then◌else◌};
     ghost use Rattle.std.specs.Fmt.{decimal};
     ghost use Rattle.app_api.specs.Params.{params_of};
-    ghost use Rattle.script.specs.Canonical.{behind_spaces, call_words, client_text, line_text, name_at, param_word, params_words};
+    ghost use Rattle.script.specs.Canonical.{behind_spaces, call_words, client_text, line_text, login_words, name_at, param_word, params_words};
     ghost use Rattle.script.specs.Grammar.{post_words};
 
     /// Two numbers behind a kind's word.
@@ -96,14 +97,46 @@ impl Text {
         self.number(number)
     }
 
+    /// A space, the front of a login's word and a number.
+    fn login_number(&mut self, front: &[u8], number: u32) -> Result<(), NoMemory>
+        ensures { OnOk result (self.new
+            ≡ self.old ++ (codes " " ++ (front.now ++ decimal number))) }
+    {
+        self.push(b" ")?;
+        self.push(front)?;
+        self.number(u64::from(number))
+    }
+
+    /// The word of a login after a space. A public one has none.
+    fn login(&mut self, login: &Login) -> Result<(), NoMemory>
+        ensures { OnOk result (self.new ≡ self.old ++ behind_spaces (login_words login.now)) }
+    {
+        match login {
+            Login::Public => Ok(()),
+            Login::User(number) => self.login_number(b"user:", *number),
+            Login::Group(number) => self.login_number(b"group:", *number),
+            Login::App(id) => {
+                let mut buffer = Uuid::encode_buffer();
+                let text = id.hyphenated().encode_lower(&mut buffer);
+                self.push(b" app:")?;
+                self.push(text.as_bytes())
+            }
+        }
+    }
+
     /// The words of a call, each behind a space.
     fn call(&mut self, call: &Call) -> Result<(), NoMemory>
         ensures { OnOk result (self.new ≡ self.old ++ behind_spaces (call_words call.now)) }
     {
         match call {
-            Call::Open { label, params } => {
+            Call::Open {
+                label,
+                login,
+                params,
+            } => {
                 self.push(b" open")?;
                 self.spaced_number(u64::from(*label))?;
+                self.login(login)?;
                 self.params(params)
             }
             Call::Invoke {

@@ -7,7 +7,7 @@ ghost use Rattle.script.specs.declared.generated.TheConstants.{CLIENT, LINE_TURN
 
 use crate::line::Line;
 use crate::script::Script;
-use app_api::{Call, Param, Params};
+use app_api::{Call, Login, Param, Params};
 use std::alloc::Global;
 use tee_base::{Bytes, NoMemory};
 
@@ -134,6 +134,7 @@ fn line_of(alloc: Global, drawn: &Drawn) -> Result<Line, NoMemory>
     let call = match kind {
         0 | 1 => Call::Open {
             label,
+            login: Login::Public,
             params: Params::nothing(),
         },
         2 | 3 => {

@@ -4,13 +4,13 @@ ghost use Rattle.std.specs.Prelude.{◌≡◌, ◌≤◌, ◌*◌, ◌<◌, List
 ghost use Rattle.app_api.specs.declared.host.Host.{Host};
 ghost use Rattle.tee_base.specs.declared.limits.TheConstants.{MAX_ASK_BYTES};
 ghost use Rattle.script.specs.Parameters.{Gives};
-ghost use Rattle.script.specs.Lines.{app_line, board_line, call_line, call_of, cancel_line, client_line, closed_by, host_at, id_of, index_from, invoked_by, is_silent, meaning_of, meaning_of_words, opened_by, plain_line, turns_line};
+ghost use Rattle.script.specs.Lines.{app_line, board_line, call_line, call_of, cancel_line, client_line, closed_by, host_at, id_of, index_from, invoked_by, is_silent, login_in, meaning_of, meaning_of_words, opened_as, opened_by, plain_line, turns_line};
 
 use crate::line::{Line, Meaning, ReadCall, ReadMeaning};
 use crate::number::{number, number_within, number32};
 use crate::param::params_of;
 use crate::words::{LineError, is_ascii, words_of};
-use app_api::{Call, Host};
+use app_api::{Call, Host, Login};
 use std::alloc::Global;
 use std::str;
 use tee_base::limits;
@@ -69,20 +69,57 @@ fn host_index<A>(hosts: &[Host<A>], word: &[u8]) -> Option<u8>
     }
 }
 
+/// The login that a word says, or that it says none. A word that begins as one has to be one.
+#[tactic(auto, unfolding(crate::specs::Lines::login_in))]
+fn login_in(word: &[u8]) -> Result<Option<Login>, LineError>
+    ensures { Gives result (login_in word.now) }
+{
+    if let Some(digits) = word.strip_prefix(b"user:") {
+        return Ok(Some(Login::User(number32(digits)?)));
+    }
+    if let Some(digits) = word.strip_prefix(b"group:") {
+        return Ok(Some(Login::Group(number32(digits)?)));
+    }
+    if let Some(text) = word.strip_prefix(b"app:") {
+        return match id_of(text) {
+            Some(id) => Ok(Some(Login::App(id))),
+            None => Err(LineError::Bad),
+        };
+    }
+    Ok(None)
+}
+
+/// An open by this login, with the parameters of these words.
+#[tactic(auto, unfolding(crate::specs::Lines::opened_as))]
+fn open_as(alloc: Global, label: u32, login: Login, words: &[&[u8]]) -> Result<ReadCall, LineError>
+    ensures value { Gives result (opened_as label login (map (λ word. word.now) words.now)) }
+    ensures small { IfOk result (λ read. read.fills ≤ 4 * MAX_ASK_BYTES) }
+{
+    let all = params_of(alloc, words)?;
+    Ok(ReadCall {
+        call: Call::Open {
+            label,
+            login,
+            params: all.params,
+        },
+        fills: all.fills,
+    })
+}
+
+/// An open: a login, if there is one, and its parameters stand after the label.
 #[tactic(auto, unfolding(crate::specs::Lines::opened_by))]
 fn open_call(alloc: Global, label: &[u8], words: &[&[u8]]) -> Result<ReadCall, LineError>
     ensures value { Gives result (opened_by label.now (map (λ word. word.now) words.now)) }
     ensures small { IfOk result (λ read. read.fills ≤ 4 * MAX_ASK_BYTES) }
 {
     let label = number32(label)?;
-    let all = params_of(alloc, words)?;
-    Ok(ReadCall {
-        call: Call::Open {
-            label,
-            params: all.params,
-        },
-        fills: all.fills,
-    })
+    let Some((word, others)) = words.split_first() else {
+        return open_as(alloc, label, Login::Public, words);
+    };
+    match login_in(word)? {
+        Some(login) => open_as(alloc, label, login, others),
+        None => open_as(alloc, label, Login::Public, words),
+    }
 }
 
 #[tactic(auto, unfolding(crate::specs::Lines::invoked_by))]

@@ -86,7 +86,7 @@ fn first_bad(
     }
 }
 
-const PRINTED: [(&[u8], &[u8]); 8] = [
+const PRINTED: [(&[u8], &[u8]); 10] = [
     (b"", b""),
     (b"one open 1\n", b"one open 1\n"),
     (
@@ -113,6 +113,14 @@ const PRINTED: [(&[u8], &[u8]); 8] = [
         b"00000000-0000-0000-0000-000000000002 open 1\nurn:uuid:00000000-0000-0000-0000-000000000002 open 2\n{00000000-0000-0000-0000-000000000001} open 3\n00000000000000000000000000000001 open 4\n",
         b"two open 1\ntwo open 2\none open 3\none open 4\n",
     ),
+    (
+        b"one open 1 user:01000 mi:6B\none post open 2  group:4294967295\none open 3 user:0 - vo\n",
+        b"one open 1 user:1000 mi:6b\none post open 2 group:4294967295\none open 3 user:0 - vo\n",
+    ),
+    (
+        b"one open 1 app:67E55044-10B1-426F-9247-BB680E5FE0C8\none open 2 app:67e5504410b1426f9247bb680e5fe0c8 vo\none open 3 app:URN:uuid:67e55044-10b1-426f-9247-bb680e5fe0c8\n",
+        b"one open 1 app:67e55044-10b1-426f-9247-bb680e5fe0c8\none open 2 app:67e55044-10b1-426f-9247-bb680e5fe0c8 vo\none open 3 app:67e55044-10b1-426f-9247-bb680e5fe0c8\n",
+    ),
 ];
 
 #[test]
@@ -125,7 +133,7 @@ fn each_spelling_has_its_canonical_text(rt: HostRuntime) -> Result<(), Fail> {
     Ok(())
 }
 
-const BAD: [(&[u8], u64); 22] = [
+const BAD: [(&[u8], u64); 32] = [
     (b"one open 1\none opn 2\n", 2),
     (b"one open 1\n \n", 2),
     (b" # no comment\n", 1),
@@ -148,6 +156,16 @@ const BAD: [(&[u8], u64); 22] = [
     (b"one cancel 18446744073709551616\n", 1),
     (b"board fuse 1000001\n", 1),
     (b"board power 18446744073709551616\n", 1),
+    (b"one open 1\none open 1 user:x\n", 2),
+    (b"one open 1 user:\n", 1),
+    (b"one open 1 user:4294967296\n", 1),
+    (b"one open 1 group:\n", 1),
+    (b"one open 1 app:\n", 1),
+    (b"one open 1 app:67e55044-10b1-426f-9247-bb680e5fe0c\n", 1),
+    (b"one open 1 user:1 group:1\n", 1),
+    (b"one open 1 - user:1\n", 1),
+    (b"one open 1 User:1\n", 1),
+    (b"one invoke 1 2 user:1\n", 1),
 ];
 
 #[test]
