@@ -2,6 +2,7 @@
 use Rattle.std.proofs.Common.{ℕ, ◌≡◌, Bool, true, false, cond, ◌&&◌, [], ◌∷◌, Option, None, Some, Result, Ok, Err, is_some, refl, sym, ap, ◌∙◌}
 use Rattle.tee_base.specs.declared.codes.Code.{Code}
 use Rattle.app_api.specs.declared.out.Outs.{Outs}
+use Rattle.app_api.specs.declared.login.Login.{Login}
 use Rattle.app_api.specs.declared.param.Params.{Params}
 use Rattle.app_api.specs.declared.call.Call.{Call}
 use Rattle.app_api.specs.declared.call.Call.TheVariants as calls
@@ -39,10 +40,10 @@ use Rattle.app_side.specs.Represents.{Represents, doubtful, machine_of, machine_
 abbrev pub step_over : {A : Type 0} → Store → Option Store → Stepped A → Stepped A
 step_over store doubt s = record s { machine = over store doubt s.machine }
 
-opened_over : {A : Type 0} (store : Store) (doubt : Option Store) (m : Machine A) (client label : ℕ) (ps : Params) (r : Result Admission Refusal) →
-    opened_as (over store doubt m) client label ps r ≡ step_over store doubt (opened_as m client label ps r)
-opened_over store doubt m client label ps (Err refusal) = refl
-opened_over store doubt m client label ps (Ok a) = refl
+opened_over : {A : Type 0} (store : Store) (doubt : Option Store) (m : Machine A) (client label : ℕ) (login : Login) (ps : Params) (r : Result Admission Refusal) →
+    opened_as (over store doubt m) client label login ps r ≡ step_over store doubt (opened_as m client label login ps r)
+opened_over store doubt m client label login ps (Err refusal) = refl
+opened_over store doubt m client label login ps (Ok a) = refl
 
 -- a choice is the same on both sides
 chosen : {A : Type 0} (store : Store) (doubt : Option Store) (b : Bool) (x y : Stepped A) (x2 y2 : Stepped A) → x2 ≡ step_over store doubt x → y2 ≡ step_over store doubt y →
@@ -50,13 +51,13 @@ chosen : {A : Type 0} (store : Store) (doubt : Option Store) (b : Bool) (x y : S
 chosen store doubt true x y x2 y2 ex ey = ex
 chosen store doubt false x y x2 y2 ex ey = ey
 
-open_over : {A : Type 0} (store : Store) (doubt : Option Store) (m : Machine A) (client label : ℕ) (ps : Params) →
-    called_open (over store doubt m) client label ps ≡ step_over store doubt (called_open m client label ps)
-open_over store doubt m client label ps =
+open_over : {A : Type 0} (store : Store) (doubt : Option Store) (m : Machine A) (client label : ℕ) (login : Login) (ps : Params) →
+    called_open (over store doubt m) client label login ps ≡ step_over store doubt (called_open m client label login ps)
+open_over store doubt m client label login ps =
     chosen store doubt (is_some (first_oversized ps)) _ _ _ _ refl
     (chosen store doubt (is_some (facts_of_label m client label)) _ _ _ _ refl
     (chosen store doubt (is_full m.queue) _ _ _ _ refl
-    (opened_over store doubt m client label ps (admission_of m.table client label))))
+    (opened_over store doubt m client label login ps (admission_of m.table client label))))
 
 invoke_at_over : {A : Type 0} (store : Store) (doubt : Option Store) (m : Machine A) (client : ℕ) (call : Call) (s : SessionFacts) (state : SessionState) →
     invoked_at (over store doubt m) client call s state ≡ step_over store doubt (invoked_at m client call s state)
@@ -85,7 +86,7 @@ close_in_over store doubt m client label (Some s) = close_at_over store doubt m 
 pub called_over : {A : Type 0} (store : Store) (doubt : Option Store) (m : Machine A) (client : ℕ) (call : Call) → after_call (over store doubt m) client call ≡ step_over store doubt
     (after_call m client call)
 unfolding after_call
-called_over store doubt m client (calls.Open label ps) = open_over store doubt m client label ps
+called_over store doubt m client (calls.Open label login ps) = open_over store doubt m client label login ps
 called_over store doubt m client (calls.Invoke label command ps) =
     chosen store doubt (is_some (first_oversized ps)) _ _ _ _ refl (invoke_in_over store doubt m client (calls.Invoke label command ps) (facts_of_label m client label))
 called_over store doubt m client (calls.Close label) = close_in_over store doubt m client label (facts_of_label m client label)
@@ -212,9 +213,9 @@ stays_lost : {A : Type 0} (lost b : Bool) (x y : Stepped A) → x.machine.lost �
 stays_lost lost true x y ex ey = ex
 stays_lost lost false x y ex ey = ey
 
-opened_lost : {A : Type 0} (m : Machine A) (client label : ℕ) (ps : Params) (r : Result Admission Refusal) → (opened_as m client label ps r).machine.lost ≡ m.lost
-opened_lost m client label ps (Err refusal) = refl
-opened_lost m client label ps (Ok a) = refl
+opened_lost : {A : Type 0} (m : Machine A) (client label : ℕ) (login : Login) (ps : Params) (r : Result Admission Refusal) → (opened_as m client label login ps r).machine.lost ≡ m.lost
+opened_lost m client label login ps (Err refusal) = refl
+opened_lost m client label login ps (Ok a) = refl
 
 invoked_lost : {A : Type 0} (m : Machine A) (client : ℕ) (call : Call) (s : SessionFacts) (state : SessionState) → (invoked_at m client call s state).machine.lost ≡ m.lost
 invoked_lost m client call s Opening = refl
@@ -238,9 +239,9 @@ closed_in_lost m client label (Some s) = closed_lost m client label s s.state
 
 pub called_lost : {A : Type 0} (m : Machine A) (client : ℕ) (call : Call) → (after_call m client call).machine.lost ≡ m.lost
 unfolding after_call
-called_lost m client (calls.Open label ps) =
+called_lost m client (calls.Open label login ps) =
     stays_lost m.lost (is_some (first_oversized ps)) _ _ refl (stays_lost m.lost (is_some (facts_of_label m client label)) _ _ refl
-    (stays_lost m.lost (is_full m.queue) _ _ refl (opened_lost m client label ps (admission_of m.table client label))))
+    (stays_lost m.lost (is_full m.queue) _ _ refl (opened_lost m client label login ps (admission_of m.table client label))))
 called_lost m client (calls.Invoke label command ps) = stays_lost m.lost (is_some (first_oversized ps)) _ _ refl (invoked_in_lost m client (calls.Invoke label command ps)
     (facts_of_label m client label))
 called_lost m client (calls.Close label) = closed_in_lost m client label (facts_of_label m client label)

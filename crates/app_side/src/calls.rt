@@ -9,7 +9,7 @@ ghost use Rattle.app_side.specs.Represents.{called_of, machine_of, IsCalled};
 
 use crate::side::{AppSide, Taken};
 use alone::{Call, Instance};
-use app_api::{Application, Params};
+use app_api::{Application, Login, Params};
 use instances::{Admission, Refusal, SessionState};
 use op_queue::QueueAnswer;
 use std::alloc::Global;
@@ -81,6 +81,7 @@ impl<A: Application> AppSide<A> {
         &mut self,
         client: u8,
         label: u32,
+        login: &Login,
         params: Params,
         admission: Admission,
     ) -> Result<Taken, NoMemory>
@@ -90,12 +91,16 @@ impl<A: Application> AppSide<A> {
         requires shared { admission.new_instance ≡ false }
         ensures ok { IfOk result (λ waiting.
             IsCalled self.new (called_of waiting) self.old.queue.next
-            (opened_as (machine_of self.old) client label params (Ok admission))) }
+            (opened_as (machine_of self.old) client label login.now params (Ok admission))) }
         ensures err { OnErr result (machine_of self.new ≡ machine_of self.old) }
     {
-        let call = Call::Open { label, params };
+        let call = Call::Open {
+            label,
+            login: *login,
+            params,
+        };
         let waiting = self.wait_for(client, admission.instance, admission.session, call)?;
-        self.sessions.enter(client, label, admission);
+        self.sessions.enter(client, label, login, admission);
         Ok(waiting)
     }
 
@@ -104,6 +109,7 @@ impl<A: Application> AppSide<A> {
         &mut self,
         client: u8,
         label: u32,
+        login: &Login,
         params: Params,
         admission: Admission,
     ) -> Result<Taken, NoMemory>
@@ -113,7 +119,7 @@ impl<A: Application> AppSide<A> {
         requires own { admission.new_instance ≡ true }
         ensures ok { IfOk result (λ waiting.
             IsCalled self.new (called_of waiting) self.old.queue.next
-            (opened_as (machine_of self.old) client label params (Ok admission))) }
+            (opened_as (machine_of self.old) client label login.now params (Ok admission))) }
         ensures err { OnErr result (machine_of self.new ≡ machine_of self.old) }
     {
         let number = admission.instance;
@@ -121,10 +127,14 @@ impl<A: Application> AppSide<A> {
             drop(params);
             return Err(want);
         }
-        let call = Call::Open { label, params };
+        let call = Call::Open {
+            label,
+            login: *login,
+            params,
+        };
         match self.wait_for(client, admission.instance, admission.session, call) {
             Ok(waiting) => {
-                self.sessions.enter(client, label, admission);
+                self.sessions.enter(client, label, login, admission);
                 Ok(waiting)
             }
             Err(answer) => {
@@ -135,20 +145,26 @@ impl<A: Application> AppSide<A> {
     }
 
     /// An open that is refused for want of a session or an instance, or that is admitted.
-    fn enter(&mut self, client: u8, label: u32, params: Params) -> Result<Taken, NoMemory>
+    fn enter(
+        &mut self,
+        client: u8,
+        label: u32,
+        login: &Login,
+        params: Params,
+    ) -> Result<Taken, NoMemory>
         requires room { self.old.queue.next < MAX_NUMBER }
         requires accepted { is_full self.old.queue ≡ false }
         ensures ok { IfOk result (λ waiting.
             IsCalled self.new (called_of waiting) self.old.queue.next
-            (opened_as (machine_of self.old) client label params
+            (opened_as (machine_of self.old) client label login.now params
             (admission_of self.old.sessions client label))) }
         ensures err { OnErr result (machine_of self.new ≡ machine_of self.old) }
     {
         match self.sessions.admit(client, label) {
             Ok(admission) if admission.new_instance => self.enter_new(
-                client, label, params, admission,
+                client, label, login, params, admission,
             ),
-            Ok(admission) => self.enter_shared(client, label, params, admission),
+            Ok(admission) => self.enter_shared(client, label, login, params, admission),
             Err(refusal) => {
                 drop(params);
                 Ok(self.refuse(refusal.code, refusal.origin))
@@ -156,11 +172,17 @@ impl<A: Application> AppSide<A> {
         }
     }
 
-    fn open(&mut self, client: u8, label: u32, params: Params) -> Result<Taken, NoMemory>
+    fn open(
+        &mut self,
+        client: u8,
+        label: u32,
+        login: &Login,
+        params: Params,
+    ) -> Result<Taken, NoMemory>
         requires { self.old.queue.next < MAX_NUMBER }
         ensures ok { IfOk result (λ waiting.
             IsCalled self.new (called_of waiting) self.old.queue.next
-            (called_open (machine_of self.old) client label params)) }
+            (called_open (machine_of self.old) client label login.now params)) }
         ensures err { OnErr result (machine_of self.new ≡ machine_of self.old) }
     {
         if params.check().is_err() {
@@ -175,7 +197,7 @@ impl<A: Application> AppSide<A> {
             drop(params);
             return Ok(self.refuse(Code::BUSY, Origin::Tee));
         }
-        self.enter(client, label, params)
+        self.enter(client, label, login, params)
     }
 
     fn invoke(
@@ -267,7 +289,11 @@ impl<A: Application> AppSide<A> {
         ensures err { OnErr result (machine_of self.new ≡ machine_of self.old) }
     {
         match call {
-            Call::Open { label, params } => self.open(client, label, params),
+            Call::Open {
+                label,
+                login,
+                params,
+            } => self.open(client, label, &login, params),
             Call::Invoke {
                 label,
                 command,

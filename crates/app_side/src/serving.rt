@@ -5,7 +5,7 @@ ghost use Rattle.object_asks.specs.Asks.{changes_store};
 ghost use Rattle.object_asks.specs.Serving.{objects_in};
 ghost use Rattle.operation_asks.specs.Kept.{state_of};
 ghost use Rattle.alone.specs.Families.{family_of};
-ghost use Rattle.alone.specs.Asks.{resolution, entry_resolution, flag_for, mask_for, mask_set_for};
+ghost use Rattle.alone.specs.Asks.{resolution, entry_resolution, flag_for, identity_answer, login_for, mask_for, mask_set_for};
 ghost use Rattle.alone.specs.Step.{serve_outcome};
 ghost use Rattle.app_side.specs.Asking.{entry_with_ask, reaching_in_family};
 ghost use Rattle.app_side.specs.Represents.{machine_of, after_store_kind};
@@ -13,11 +13,24 @@ ghost use Rattle.app_side.specs.Serving.{CarriesOut, IsEntryServed};
 
 use crate::side::AppSide;
 use crate::turns::Entered;
-use alone::{Family, family_of, returned};
-use app_api::{Answer, Application, Ask};
+use alone::{EntryPoint, Family, family_of, returned};
+use app_api::{Answer, Application, Ask, Login};
 use object_asks::{Served, TurnKind, answered, panicked, serve};
 use store_api::AppStore;
-use tee_base::NoMemory;
+use tee_base::{Code, NoMemory};
+
+/// What an entry is answered that asks who the client is, where this is the login of its session.
+fn identity(login: Option<Login>) -> Answer
+    ensures { result ≡ identity_answer login }
+{
+    match login {
+        None => Answer::Refused(Code::ITEM_NOT_FOUND),
+        Some(login) => Answer::Identity {
+            login: login.number(),
+            id: login.id(),
+        },
+    }
+}
 
 impl<A: Application> AppSide<A> {
     /// Notes how the store did.
@@ -54,6 +67,20 @@ impl<A: Application> AppSide<A> {
         }
     }
 
+    /// The login of the session for which an entry runs that serves an operation. There is none at a destroy entry.
+    fn login_for(&self, op: Option<u64>, stage: &EntryPoint) -> Option<Login>
+        ensures { result ≡ login_for self.now.sessions op stage.now }
+    {
+        op?;
+        match stage {
+            EntryPoint::Create { session, .. }
+            | EntryPoint::Start { session, .. }
+            | EntryPoint::Invoke { session, .. }
+            | EntryPoint::Stop { session } => self.sessions.login(*session),
+            EntryPoint::Destroy { .. } => None,
+        }
+    }
+
     /// Serves an ask about the entry itself. One of another family doesn't come here.
     fn serve_entry(&mut self, entry: &Entered, ask: Ask) -> Served
         ensures { IsEntryServed result
@@ -69,6 +96,7 @@ impl<A: Application> AppSide<A> {
                 entry.masked,
                 false,
             ))),
+            Ask::ClientIdentity => answered(identity(self.login_for(entry.op, &entry.stage))),
             _ => {
                 drop(ask);
                 panicked()

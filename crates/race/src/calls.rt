@@ -69,7 +69,11 @@ fn try_post<V: Volume, A: Application>(
         IsRefused why (bytes_of_call call.now) pass.old pass.new) }
 {
     match call {
-        Call::Open { label, params } => shared.open_session(pass, *label, params),
+        Call::Open {
+            label,
+            login,
+            params,
+        } => shared.open_session(pass, *label, *login, params),
         Call::Invoke {
             label,
             command,

@@ -4,6 +4,8 @@ use denote.Param.Send.{IsSend, IsSync, sendable, struct_send, enum_send, view_se
 use Rattle.std.proofs.Crossing.{Box-send, Vec-send, Vec-sync, crosses, frees}
 use Rattle.std.proofs.MapsCrossing.{BTreeMap-send}
 use Rattle.tee_base.specs.contracts.bytes.Bytes as Bytes
+use Rattle.uuid.specs.contracts.Uuid as Uuid
+use Rattle.app_api.specs.contracts.login.Login as Login
 use Rattle.app_api.specs.contracts.param.Param as Param
 use Rattle.app_api.specs.contracts.param.Params as Params
 use Rattle.app_api.specs.contracts.call.Call as Call
@@ -49,6 +51,11 @@ use Rattle.aes_core.specs.contracts.key.Key as Key
 use Rattle.aes_modes.specs.contracts.stream.Stream as Stream
 use Rattle.mac_digest.specs.contracts.digests.Digester as Digester
 use Rattle.mac_digest.specs.contracts.macs.Mac as Mac
+use Rattle.ae_modes.specs.contracts.waiting.Waiting as Waiting
+use Rattle.ae_modes.specs.contracts.tables.Tables as Tables
+use Rattle.ae_modes.specs.contracts.ghash.Ghash as Ghash
+use Rattle.ae_modes.specs.contracts.message.Gcm as Gcm
+use Rattle.ae_modes.specs.contracts.code.Cmac as Cmac
 use Rattle.crypto_ops.specs.contracts.operation.Operation as CryptoOperation
 use Rattle.operation_asks.specs.contracts.table.Entry as OperationEntry
 use Rattle.crypto_ops.specs.contracts.random.Stream as Random
@@ -103,6 +110,18 @@ Bytes-field-sync = search (Vec-sync, sendable) depth 60 fits 20000
 Bytes-sync : IsSync Bytes.the_row
 Bytes-sync = search (Bytes-field-sync, sendable) depth 60
 
+Uuid-field : IsSend Uuid.the_field.row
+Uuid-field = search sendable depth 60 fits 20000
+
+Uuid-field-sync : IsSync Uuid.the_field.row
+Uuid-field-sync = search sendable depth 60 fits 20000
+
+Login-field : IsSend Login.the_field.row
+Login-field = search (Uuid-field, sendable) depth 60 fits 20000
+
+Login-field-sync : IsSync Login.the_field.row
+Login-field-sync = search (Uuid-field-sync, sendable) depth 60 fits 20000
+
 Param-field : IsSend Param.the_field.row
 Param-field = search (Bytes-field, sendable) depth 60 fits 20000
 
@@ -128,13 +147,13 @@ Params-sync : IsSync Params.the_row
 Params-sync = search (Params-field-sync, sendable) depth 60
 
 Call-field : IsSend Call.the_field.row
-Call-field = search (Params-field, sendable) depth 60 fits 20000
+Call-field = search (Login-field, Params-field, sendable) depth 60 fits 20000
 
 Call-send : IsSend Call.the_row
 Call-send = search (Call-field, sendable) depth 60
 
 pub Call-field-sync : IsSync Call.the_field.row
-Call-field-sync = search (Params-field-sync, sendable) depth 60 fits 20000
+Call-field-sync = search (Login-field-sync, Params-field-sync, sendable) depth 60 fits 20000
 
 Call-sync : IsSync Call.the_row
 Call-sync = search (Call-field-sync, sendable) depth 60
@@ -293,7 +312,7 @@ Slot-send : IsSend Slot.the_row
 Slot-send = search (Slot-field, sendable) depth 60
 
 Session-field : IsSend Session.the_field.row
-Session-field = search (SessionState-field, sendable) depth 60 fits 20000
+Session-field = search (SessionState-field, Login-field, sendable) depth 60 fits 20000
 
 Session-send : IsSend Session.the_row
 Session-send = search (Session-field, sendable) depth 60
@@ -447,8 +466,23 @@ Mac-field = search (Digester-field, sendable) depth 60 fits 20000
 Mac-send : IsSend Mac.the_row
 Mac-send = search (Mac-field, sendable) depth 60
 
+Waiting-field : IsSend Waiting.the_field.row
+Waiting-field = search sendable depth 60 fits 20000
+
+Tables-field : IsSend Tables.the_field.row
+Tables-field = search sendable depth 60 fits 20000
+
+Ghash-field : IsSend Ghash.the_field.row
+Ghash-field = search (Waiting-field, Tables-field, sendable) depth 60 fits 20000
+
+Gcm-field : IsSend Gcm.the_field.row
+Gcm-field = search (Key-field, Ghash-field, sendable) depth 60 fits 20000
+
+Cmac-field : IsSend Cmac.the_field.row
+Cmac-field = search (Key-field, Waiting-field, sendable) depth 60 fits 20000
+
 CryptoOperation-field : IsSend CryptoOperation.the_field.row
-CryptoOperation-field = search (Secret-send, Stream-field, Digester-field, Mac-field, sendable) depth 60 fits 20000
+CryptoOperation-field = search (Secret-send, Stream-field, Digester-field, Mac-field, Gcm-field, Cmac-field, sendable) depth 60 fits 20000
 
 CryptoOperation-send : IsSend CryptoOperation.the_row
 CryptoOperation-send = search (CryptoOperation-field, sendable) depth 60

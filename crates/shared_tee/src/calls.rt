@@ -9,7 +9,7 @@ ghost use Rattle.shared_tee.specs.Passes.{GoesOn, IsPass, IsPassOf, IsRefused, M
 use crate::pass::Pass;
 use crate::shared::SharedTeeOver;
 use alone::{Call, copy_params};
-use app_api::{Application, Params};
+use app_api::{Application, Login, Params};
 use shared_parts::{Posted, SharedAnswer};
 use store_api::Volume;
 
@@ -66,6 +66,7 @@ impl<V: Volume, A: Application> SharedTeeOver<V, A> {
         &self,
         pass: &mut Pass<V, A>,
         label: u32,
+        login: Login,
         params: &Params,
     ) -> Result<Posted, SharedAnswer>
         requires of { IsPassOf self.now pass.old }
@@ -73,7 +74,7 @@ impl<V: Volume, A: Application> SharedTeeOver<V, A> {
         ensures of { IsPassOf self.now pass.new }
         ensures goes { GoesOn pass.old pass.new }
         ensures ok { IfOk result (λ posted. Posts V.keeper A.behaviour
-            (calls.Open label params.now) posted pass.old pass.new) }
+            (calls.Open label login params.now) posted pass.old pass.new) }
         ensures err { IfErr result (λ why.
             IsRefused why (bytes_of_params params.now) pass.old pass.new) }
     {
@@ -84,12 +85,15 @@ impl<V: Volume, A: Application> SharedTeeOver<V, A> {
             drop(params_kept);
             return Err(self.refuse(pass));
         };
+        let lent = &login;
         let call = Call::Open {
             label,
+            login: *lent,
             params: params_kept,
         };
         let copy = Call::Open {
             label,
+            login: *lent,
             params: params_logged,
         };
         self.post(pass, call, copy)

@@ -1,5 +1,5 @@
 -- The application of the tests: it plays asks in turn.
-use Rattle.std.specs.Prelude.{[], ◌∷◌, true}
+use Rattle.std.specs.Prelude.{◌==◌, [], ◌∷◌, true, if◌then◌else◌}
 use Rattle.tee_base.specs.declared.codes.Code.{Code}
 use Rattle.tee_base.specs.declared.codes.TheConstants.Code.{SUCCESS, CANCEL}
 use Rattle.app_api.specs.declared.ask.Ask.{Ask}
@@ -12,15 +12,20 @@ use Rattle.test_app_side.specs.declared.player.Play.{Play}
 use Rattle.test_app_side.specs.declared.player.Play.TheVariants as plays
 use Rattle.test_app_side.specs.declared.player.Player.{Player}
 
--- what the last answer tells: the code of a refusal, CANCEL for yes, and else SUCCESS
+-- what the last answer tells: the code of a refusal, CANCEL for yes, the number of a login for an identity, and else SUCCESS
 abbrev pub told_by : Given → Code
 told_by (givens.Answer (answers.Refused code)) = code
 told_by (givens.Answer (answers.Truth true)) = CANCEL
+told_by (givens.Answer (answers.Identity login id)) = record { 0 = login }
 told_by given = SUCCESS
 
 -- the return of this code, without outputs
 abbrev pub return_with : Code → Ask
 return_with code = asked.Return code no_outs
+
+-- the return of SUCCESS where this was told, and else a panic
+abbrev pub success_if : Code → Code → Ask
+success_if expected told = if told.0 == expected.0 then return_with SUCCESS else asked.Panic told
 
 -- the object `a` is made anew, to be read, written and shared
 abbrev pub making : Ask
@@ -34,9 +39,11 @@ opening = asked.ObjOpen 1 (97 ∷ []) 51
 abbrev pub ask_of : Play → Code → Ask
 ask_of (plays.Return code) told = return_with code
 ask_of plays.Told told = return_with told
+ask_of (plays.Expect code) told = success_if code told
 ask_of plays.Flag told = asked.CancelFlag
 ask_of plays.Mask told = asked.CancelMask
 ask_of plays.Unmask told = asked.CancelUnmask
+ask_of plays.Who told = asked.ClientIdentity
 ask_of plays.Create told = making
 ask_of plays.Open told = opening
 

@@ -12,11 +12,16 @@ use tee_base::{Bytes, Code, NoMemory};
 pub enum Play {
     /// The entry returns this code.
     Return(Code),
-    /// The entry returns the code that the last ask was refused with, CANCEL where it was answered yes, and else SUCCESS.
+    /// The entry returns the code that the last ask was refused with, CANCEL where it was answered yes, the number of the login
+    /// where it was answered with an identity, and else SUCCESS.
     Told,
+    /// The entry returns SUCCESS where `Told` would return this, and else panics.
+    Expect(Code),
     Flag,
     Mask,
     Unmask,
+    /// Who the client is.
+    Who,
     /// The object `a` is made anew, or opened.
     Create,
     Open,
@@ -51,6 +56,7 @@ fn told_by(given: &Given) -> Code
     match given {
         Given::Answer(Answer::Refused(code)) => *code,
         Given::Answer(Answer::Truth(true)) => Code::CANCEL,
+        Given::Answer(Answer::Identity { login, .. }) => Code(*login),
         _ => Code::SUCCESS,
     }
 }
@@ -61,6 +67,16 @@ fn return_with(code: Code) -> Ask
     Ask::Return {
         code,
         outs: Outs::nothing(),
+    }
+}
+
+fn success_if(expected: Code, told: Code) -> Ask
+    ensures { result ≡ player.success_if expected told }
+{
+    if told.0 == expected.0 {
+        return_with(Code::SUCCESS)
+    } else {
+        Ask::Panic { code: told }
     }
 }
 
@@ -92,9 +108,11 @@ fn ask_of(alloc: Global, play: Play, told: Code) -> Result<Ask, NoMemory>
     match play {
         Play::Return(code) => Ok(return_with(code)),
         Play::Told => Ok(return_with(told)),
+        Play::Expect(code) => Ok(success_if(code, told)),
         Play::Flag => Ok(Ask::CancelFlag),
         Play::Mask => Ok(Ask::CancelMask),
         Play::Unmask => Ok(Ask::CancelUnmask),
+        Play::Who => Ok(Ask::ClientIdentity),
         Play::Create => create(alloc),
         Play::Open => open(alloc),
     }

@@ -2,6 +2,7 @@
 
 use super::player::{PLAIN, Play, Player};
 use super::tables::{Do, Row, Table, begun, check, run};
+use app_api::Login;
 use app_side::TurnKind;
 use std::alloc::Global;
 use std::process::Abort;
@@ -20,6 +21,9 @@ const FINE: Code = Code::SUCCESS;
 const DONE: Play = Play::Return(FINE);
 
 const FAILS: Play = Play::Return(Code::GENERIC);
+
+/// What was told is the number of a user's login.
+const USER: Play = Play::Expect(Code(1));
 
 /// Two sessions of an instance whose create entry fails. Each of two clients may use the same label.
 const CREATE_FAILS: &[Row] = &[
@@ -91,6 +95,33 @@ const MASKS: &[Row] = &[
     (Do::Turns(5), &[(1, FINE, APP)]),
     (Do::Invoke(1), &[]),
     (Do::Turns(5), &[(2, Code::CANCEL, APP)]),
+];
+
+/// Create and start know the client that opens the session.
+const WHO_OPENS: &[Row] = &[
+    (Do::OpenAs(1, Login::User(1000)), &[]),
+    (Do::Turns(9), &[(1, FINE, APP)]),
+    (Do::OpenAs(2, Login::Group(100)), &[]),
+    (Do::Turns(5), &[(2, FINE, APP)]),
+];
+
+/// Each session keeps its client's login.
+const WHO_INVOKES: &[Row] = &[
+    (Do::OpenAs(1, Login::User(1000)), &[]),
+    (Do::Turns(5), &[(1, FINE, APP)]),
+    (Do::OpenAs(2, Login::Group(100)), &[]),
+    (Do::Turns(3), &[(2, FINE, APP)]),
+    (Do::Invoke(1), &[]),
+    (Do::Turns(5), &[(3, FINE, APP)]),
+];
+
+/// Stop still knows the client, and destroy knows none.
+const WHO_CLOSES: &[Row] = &[
+    (Do::OpenAs(1, Login::User(1000)), &[]),
+    (Do::Turns(5), &[(1, FINE, APP)]),
+    (Do::Close(1), &[]),
+    (Do::Turns(9), &[(2, FINE, APP)]),
+    (Do::Live(0), &[]),
 ];
 
 /// A turn without memory, and an instance that is torn down: dead sessions stay.
@@ -238,6 +269,42 @@ const TABLES: &[Table] = &[
         },
         before: MASKS,
         turns: 10,
+        ..KEPT
+    },
+    Table {
+        player: Player {
+            first: Play::Who,
+            second: USER,
+            third: Play::Who,
+            fourth: USER,
+            fifth: Play::Who,
+            sixth: Play::Expect(Code(2)),
+        },
+        before: WHO_OPENS,
+        turns: 14,
+        ..KEPT
+    },
+    Table {
+        player: Player {
+            fourth: Play::Who,
+            fifth: USER,
+            ..PLAIN
+        },
+        before: WHO_INVOKES,
+        turns: 13,
+        ..KEPT
+    },
+    Table {
+        player: Player {
+            third: Play::Who,
+            fourth: USER,
+            fifth: Play::Who,
+            sixth: Play::Expect(Code::ITEM_NOT_FOUND),
+            ..PLAIN
+        },
+        keep: false,
+        before: WHO_CLOSES,
+        turns: 14,
         ..KEPT
     },
     Table {

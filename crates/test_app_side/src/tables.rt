@@ -4,7 +4,7 @@ ghost use Rattle.std.specs.Prelude.{◌≡◌, false};
 ghost use Rattle.app_side.specs.Represents.{is_lost};
 
 use super::player::Player;
-use app_api::{Host, Params, Properties};
+use app_api::{Host, Login, Params, Properties};
 use app_side::{AppSide, Call, Replies, Reply, TurnKind};
 use std::alloc::Global;
 use std::process::Abort;
@@ -18,6 +18,7 @@ use uuid::Uuid;
 pub enum Do {
     Open(u32),
     OpenFor(u8, u32),
+    OpenAs(u32, Login),
     Invoke(u32),
     Close(u32),
     Cancel(u64),
@@ -74,32 +75,35 @@ pub fn begun(rt: &impl Abort, alloc: Global, player: Player, keep: bool) -> AppS
     AppSide::new(alloc, host, 0, [0; 32]).expect(rt, "an application")
 }
 
-/// The call that the event is, and its client. What is no call is taken for a close.
-fn call_of(what: Do) -> (u8, Call) {
-    let params = Params::nothing();
-    match what {
-        Do::Open(label) => (0, Call::Open { label, params }),
-        Do::OpenFor(client, label) => (client, Call::Open { label, params }),
-        Do::Invoke(label) => (
-            0,
-            Call::Invoke {
-                label,
-                command: 0,
-                params,
-            },
-        ),
-        Do::Close(label) => {
-            drop(params);
-            (0, Call::Close { label })
-        }
-        _ => {
-            drop(params);
-            (0, Call::Close { label: 0 })
-        }
+/// A client of this login opens a session.
+fn open_as(label: u32, login: &Login) -> Call {
+    Call::Open {
+        label,
+        login: *login,
+        params: Params::nothing(),
     }
 }
 
-fn call(rt: &impl Abort, side: &mut AppSide<Player>, what: Do) -> Replies
+/// The call that the event is, and its client. What is no call is taken for a close.
+fn call_of(what: &Do) -> (u8, Call) {
+    match what {
+        Do::Open(label) => (0, open_as(*label, &Login::Public)),
+        Do::OpenFor(client, label) => (*client, open_as(*label, &Login::Public)),
+        Do::OpenAs(label, login) => (0, open_as(*label, login)),
+        Do::Invoke(label) => (
+            0,
+            Call::Invoke {
+                label: *label,
+                command: 0,
+                params: Params::nothing(),
+            },
+        ),
+        Do::Close(label) => (0, Call::Close { label: *label }),
+        _ => (0, Call::Close { label: 0 }),
+    }
+}
+
+fn call(rt: &impl Abort, side: &mut AppSide<Player>, what: &Do) -> Replies
     ensures { is_lost side.new ≡ is_lost side.old }
 {
     let (client, call) = call_of(what);
@@ -121,13 +125,13 @@ fn turn_without_store(rt: &impl Abort, side: &mut AppSide<Player>) -> Replies
 }
 
 /// What needs no store.
-fn event(rt: &impl Abort, side: &mut AppSide<Player>, what: Do) -> Replies
+fn event(rt: &impl Abort, side: &mut AppSide<Player>, what: &Do) -> Replies
     ensures { is_lost side.new ≡ is_lost side.old }
 {
     match what {
-        Do::Cancel(op) => side.cancel(op),
+        Do::Cancel(op) => side.cancel(*op),
         Do::Starve => starve(rt, side),
-        Do::Teardown(code) => side.teardown(1, code),
+        Do::Teardown(code) => side.teardown(1, *code),
         Do::TurnWithoutStore => turn_without_store(rt, side),
         _ => call(rt, side, what),
     }
@@ -148,7 +152,7 @@ fn are_told(side: &AppSide<Player>, replies: &Replies, wanted: &[Told]) -> bool 
 }
 
 /// Makes what needs no store: whether it has the replies.
-fn is_event_told(rt: &impl Abort, side: &mut AppSide<Player>, what: Do, wanted: &[Told]) -> bool
+fn is_event_told(rt: &impl Abort, side: &mut AppSide<Player>, what: &Do, wanted: &[Told]) -> bool
     ensures { is_lost side.new ≡ is_lost side.old }
 {
     let replies = event(rt, side, what);
@@ -200,11 +204,11 @@ fn is_row_told<S: AppStore>(
     requires { is_lost side.old ≡ (S.keeper.status store.old).lost }
     ensures { is_lost side.new ≡ (S.keeper.status store.new).lost }
 {
-    let (what, wanted) = *row;
+    let (what, wanted) = row;
     match what {
-        Do::Turns(count) => are_turns_told(rt, side, store, count, wanted),
-        Do::Turn(kind) => is_turn_told(rt, side, store, kind, wanted),
-        Do::Live(count) => side.live() == count,
+        Do::Turns(count) => are_turns_told(rt, side, store, *count, wanted),
+        Do::Turn(kind) => is_turn_told(rt, side, store, *kind, wanted),
+        Do::Live(count) => side.live() == *count,
         Do::NeedsStore => side.needs_store(1),
         _ => is_event_told(rt, side, what, wanted),
     }

@@ -8,8 +8,10 @@ ghost use Rattle.shared_tee.specs.Ending.{ArePasses};
 ghost use Rattle.shared_tee.specs.Passes.{IsPassOf, PassView};
 
 use super::shared::{PASSES, SEED, begun, bytes, check_few, hosts};
-use alone::{AppLog, LogEntry, LogEvent, Outputs, Replies, Reply, Shown, TurnKind, copy_call};
-use app_api::{Application, Host, Param, Params};
+use alone::{
+    AppLog, Call, LogEntry, LogEvent, Outputs, Replies, Reply, Shown, TurnKind, copy_call,
+};
+use app_api::{Application, Host, Login, Param, Params};
 use app_side::AppSide;
 use board::Board;
 use boards::MemBoard;
@@ -138,7 +140,7 @@ fn make<V: Volume, A: Application>(
     ensures { IsPassOf tee.now pass.new }
 {
     match step {
-        0 => tee.open_session(pass, 1, params),
+        0 => tee.open_session(pass, 1, Login::User(1000), params),
         1 => tee.invoke(pass, 1, 2, params),
         2 => tee.invoke(pass, 1, 15, params),
         3 => tee.invoke(pass, 1, 3, params),
@@ -357,10 +359,22 @@ fn fold_anew<A: Application>(
     drop(side);
 }
 
-/// The log has a thread's calls with their turns, and a reply to each call.
+/// Whether the entry is the open of the user 1000.
+fn is_opened_by_user(entry: &LogEntry) -> bool {
+    matches!(
+        &entry.event,
+        LogEvent::Call(Call::Open {
+            login: Login::User(1000),
+            ..
+        })
+    )
+}
+
+/// The log has a thread's calls with their turns, a reply to each call, and first the open with its login.
 fn check_counts(rt: &impl Abort, log: &AppLog) {
     let (entries, replies) = log.parts();
     assert!(rt; replies.len() == CALLS && entries.len() == CALLS * (1 + TURNS));
+    assert!(rt; is_opened_by_user(&entries[0]));
 }
 
 /// Folds the logs of both applications.

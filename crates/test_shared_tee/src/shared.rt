@@ -6,7 +6,7 @@ ghost use Rattle.shared_tee.specs.Ending.{ArePasses};
 ghost use Rattle.shared_tee.specs.Passes.{IsPassOf};
 
 use crate::pair::pair_of;
-use app_api::{Application, Host, Param, Params, Properties, hosts_fit};
+use app_api::{Application, Host, Login, Param, Params, Properties, hosts_fit};
 use boards::MemBoard;
 use epoch::{OpenAnswer, Unopened};
 use shared_parts::{Posted, SharedAnswer};
@@ -138,7 +138,7 @@ pub fn open<V: Volume, A: Application>(
     ensures { IsPassOf tee.now pass.new }
 {
     check_few(rt, pass);
-    tee.open_session(pass, 1, params)
+    tee.open_session(pass, 1, Login::Public, params)
 }
 
 /// A turn of the instance, which has to be made.

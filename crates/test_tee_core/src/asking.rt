@@ -5,7 +5,7 @@ ghost use Rattle.app_api.specs.Hosts.{HostsFit};
 ghost use Rattle.tee_core.specs.Represents.{app_count, boots_of};
 
 use alone::{Call, Reply, Shown};
-use app_api::{Host, Param, Params, Properties, hosts_fit};
+use app_api::{Host, Login, Param, Params, Properties, hosts_fit};
 use boards::MemBoard;
 use sample_apps::Store;
 use std::alloc::Global;
@@ -95,6 +95,7 @@ pub fn two(rt: &impl Abort, alloc: Global) -> Pair
 pub fn session() -> Call {
     Call::Open {
         label: 1,
+        login: Login::Public,
         params: Params::nothing(),
     }
 }
