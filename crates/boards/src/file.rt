@@ -34,10 +34,11 @@ impl<F: Read + Write + Seek + OpenFile + Lock + Drop> FileBoard<F> {
     ghost use Rattle.boards.specs.FileBoard.{view_of, seed_of, IsOpened};
 
     /// Opens the board of the files `IMAGE`, `IMAGE.ctr` and `IMAGE.key`, and holds them until it is dropped. The first
-    /// two are made, blank, where they are missing, and an image of fewer blocks is lengthened. Both are on the disk as
-    /// they are read from then on. `Failed` where the key file is missing or hasn't 64 bytes, where the image isn't whole
-    /// blocks or the counter file hasn't 8 bytes, where one of them is no plain file, can't be used, or is held by another
-    /// process. It says which file it was, and what was wrong. Then no file is left that this call made.
+    /// two are made, blank, where they are missing, and an image of fewer blocks is lengthened. Beside an image that is in
+    /// use no counter file is made: where it is missing the counter is 0, and no `advance` succeeds. Both are on the disk
+    /// as they are read from then on. `Failed` where the key file is missing or hasn't 64 bytes, where the image isn't
+    /// whole blocks or the counter file hasn't 8 bytes, where one of them is no plain file, can't be used, or is held by
+    /// another process. It says which file it was, and what was wrong. Then no file is left that this call made.
     pub fn open<R: Files<File = F>>(
         rt: &R,
         alloc: Global,
@@ -47,7 +48,10 @@ impl<F: Read + Write + Seek + OpenFile + Lock + Drop> FileBoard<F> {
     {
         let keys = take_keys(rt, format!(in alloc; "{image}.key")?.as_str())?;
         let pair = take_pair(rt, alloc, image)?;
-        let counter = Counter::of_file(pair.counter)?;
+        let counter = match pair.counter {
+            Some(file) => Counter::of_file(file)?,
+            None => Counter::missing(),
+        };
         let about = blame(
             BoardFile::Image,
             FileFault::Unreadable,
@@ -71,7 +75,8 @@ impl<F: Read + Write + Seek + OpenFile + Lock + Drop> FileBoard<F> {
     }
 }
 
-/// Syncs the file, unless a sync of it failed before.
+/// Syncs the data of the file, unless a sync of it failed before. Its length and its name are on the disk since it was
+/// opened, and no call changes them.
 fn sync_once<F: OpenFile>(file: &F, failed: &mut bool) -> io::Result<()>
     ensures refused { failed.old ≡ true → IsErr result }
     ensures stays { failed.old ≡ true → failed.new ≡ true }
@@ -80,7 +85,7 @@ fn sync_once<F: OpenFile>(file: &F, failed: &mut bool) -> io::Result<()>
     if *failed {
         return Err(io::ErrorKind::Other.into());
     }
-    let answer = file.sync_all();
+    let answer = file.sync_data();
     *failed = answer.is_err();
     answer
 }
