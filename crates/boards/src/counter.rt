@@ -1,5 +1,5 @@
 //! The counter of a board over files: a file of eight bytes, and the number that is on the disk.
-ghost use Rattle.std.specs.Prelude.{◌≡◌, ◌≢◌, ◌+◌, ◌-◌, ◌<◌, ◌^◌, Ok, Some, None, IsErr, IfOk, IfSome, IfNone, OnErr};
+ghost use Rattle.std.specs.Prelude.{◌≡◌, ◌≢◌, ◌+◌, ◌-◌, ◌<◌, ◌^◌, true, false, Ok, Some, None, is_some, is_ok, IsErr, IfOk, IfSome, IfNone, OnErr};
 
 use crate::failed::{BoardFile, FileBoardFailed, FileFault, blame};
 use crate::files::{read_at, write_at};
@@ -27,19 +27,25 @@ fn put<F: Write + Seek + OpenFile>(file: &mut F, number: u64) -> io::Result<()> 
 }
 
 impl<F: Read + Write + Seek + OpenFile + Drop> Counter<F> {
-    /// The counter of an image that is in use and has no counter file: none was made, and none can be raised.
-    pub fn missing() -> Counter<F>
-        ensures { result.number ≡ Some 0 }
+    /// The counter in this file. Where it is missing the number is 0, and no file is made for it: it can't be raised.
+    pub fn of(file: Option<F>) -> Result<Counter<F>, FileBoardFailed>
+        ensures missing { IfNone file (result ≡ Ok (record { file = None; number = Some 0 })) }
+        ensures found { IfSome file (λ _. IfOk result (λ c. is_some c.file ≡ true)) }
     {
-        Counter {
-            file: None,
-            number: Some(0),
+        match file {
+            Some(file) => Counter::of_file(file),
+            None => Ok(Counter {
+                file: None,
+                number: Some(0),
+            }),
         }
     }
 
-    /// The counter in this file. Its number is written again as it is read: where the sync of an earlier process failed,
-    /// the bytes may be in the system's cache alone, and count as written there.
-    pub fn of_file(mut file: F) -> Result<Counter<F>, FileBoardFailed> {
+    /// The same for a file that is there. Its number is written again as it is read: where the sync of an earlier process
+    /// failed, the bytes may be in the system's cache alone, and count as written there.
+    fn of_file(mut file: F) -> Result<Counter<F>, FileBoardFailed>
+        ensures { IfOk result (λ c. is_some c.file ≡ true) }
+    {
         let mut bytes = [0; COUNTER_BYTES];
         let read = read_at(&mut file, 0, &mut bytes);
         blame(BoardFile::Counter, FileFault::Unreadable, read)?;
@@ -72,6 +78,7 @@ impl<F: Read + Write + Seek + OpenFile + Drop> Counter<F> {
         ensures lost { OnErr result (self.old.number ≢ Some (2 ^ 64 - 1)
             → self.new.number ≡ None) }
         ensures full { self.old.number ≡ Some (2 ^ 64 - 1) → self.new.number ≡ self.old.number }
+        ensures missing { is_some self.old.file ≡ false → is_ok result ≡ false }
     {
         let Some(next) = self.number()?.checked_add(1) else {
             return Err(io::ErrorKind::InvalidData.into());

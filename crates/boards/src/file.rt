@@ -48,10 +48,7 @@ impl<F: Read + Write + Seek + OpenFile + Lock + Drop> FileBoard<F> {
     {
         let keys = take_keys(rt, format!(in alloc; "{image}.key")?.as_str())?;
         let pair = take_pair(rt, alloc, image)?;
-        let counter = match pair.counter {
-            Some(file) => Counter::of_file(file)?,
-            None => Counter::missing(),
-        };
+        let counter = Counter::of(pair.counter)?;
         let about = blame(
             BoardFile::Image,
             FileFault::Unreadable,
@@ -91,7 +88,7 @@ fn sync_once<F: OpenFile>(file: &F, failed: &mut bool) -> io::Result<()>
 }
 
 impl<F: Read + Write + Seek + OpenFile + Drop> Board for FileBoard<F> {
-    ghost use Rattle.boards.specs.FileBoard.{view_of, number_of, KeepsFiles};
+    ghost use Rattle.boards.specs.FileBoard.{view_of, number_of, has_counter, KeepsFiles};
 
     ghost tells_reads = { false };
 
@@ -158,6 +155,7 @@ impl<F: Read + Write + Seek + OpenFile + Drop> Board for FileBoard<F> {
             → number_of self.new ≡ number_of self.old }
         ensures full { number_of self.old ≡ Some (2 ^ 64 - 1)
             → number_of self.new ≡ number_of self.old }
+        ensures missing { has_counter self.old ≡ false → is_ok result ≡ false }
     {
         self.counts.begin()?;
         let answer = self.counter.raise();
