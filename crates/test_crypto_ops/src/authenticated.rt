@@ -3,8 +3,6 @@
 
 use crate::calls::{Do, Kind, Row, Told, go_apart, new, run};
 use crate::vectors::{AES_KEY, PLAIN};
-use std::alloc::Global;
-use std::process::Abort;
 use tee_base::keys;
 
 const SEALING: Kind = (keys::AES_GCM, keys::MODE_ENCRYPT, 128);
@@ -14,7 +12,7 @@ const OPENING: Kind = (keys::AES_GCM, keys::MODE_DECRYPT, 128);
 const CODE: Kind = (keys::AES_CMAC, keys::MODE_MAC, 256);
 
 /// The key of the examples of GCM, and their nonces, associated data, texts, ciphertexts and tags. Text and ciphertext of
-/// case 4 are cut behind 20 bytes.
+/// case 4 are cut after 20 bytes.
 const KEY: &[u8] = &[
     0xfe, 0xff, 0xe9, 0x92, 0x86, 0x65, 0x73, 0x1c, 0x6d, 0x6a, 0x8f, 0x94, 0x67, 0x30, 0x83, 0x08,
 ];
@@ -221,31 +219,33 @@ fn codes_by_a_cipher(rt: HostRuntime) {
     run(&rt, rt.alloc(), CODE, ROWS);
 }
 
-/// Makes the calls of the first rows, and those of the others on the operation and on a copy of it.
-fn check_both(rt: &impl Abort, alloc: Global, kind: Kind, begun: &[Row<'_>], ended: &[Row<'_>]) {
-    let mut operation = new(rt, kind);
-    go_apart(rt, alloc, &mut operation, begun, kind, ended, ended);
-    drop(operation);
-}
-
 #[test]
-fn copies_amid_a_message_go_on_apart(rt: HostRuntime) {
-    const SEAL_BEGUN: &[Row] = &[
+fn copies_of_messages_go_on_apart(rt: HostRuntime) {
+    const STARTED: &[Row] = &[
         KEYED,
         BEGUN,
         WITH_AAD,
         (Do::AeUpdate(TEXT_FRONT, 64), Told::Bytes(SEALED_FRONT)),
     ];
-    const SEAL_ENDED: &[Row] = &[(
+    const ENDED: &[Row] = &[(
         Do::AeSeal(TEXT_REST, 64, 64),
         Told::Sealed(SEALED_REST, TAG),
     )];
-    const CODE_BEGUN: &[Row] = &[
+    const SAME: Kind = SEALING;
+    let mut operation = new(&rt, SEALING);
+    go_apart(&rt, rt.alloc(), &mut operation, STARTED, SAME, ENDED, ENDED);
+    drop(operation);
+}
+
+#[test]
+fn copies_of_codes_go_on_apart(rt: HostRuntime) {
+    const STARTED: &[Row] = &[
         CODE_KEYED,
         (Do::MacInit, Told::Done),
         (Do::MacUpdate(FRONT), Told::Done),
     ];
-    const CODE_ENDED: &[Row] = &[(Do::MacFinal(REST, 16), Told::Bytes(CODE_64))];
-    check_both(&rt, rt.alloc(), SEALING, SEAL_BEGUN, SEAL_ENDED);
-    check_both(&rt, rt.alloc(), CODE, CODE_BEGUN, CODE_ENDED);
+    const ENDED: &[Row] = &[(Do::MacFinal(REST, 16), Told::Bytes(CODE_64))];
+    let mut operation = new(&rt, CODE);
+    go_apart(&rt, rt.alloc(), &mut operation, STARTED, CODE, ENDED, ENDED);
+    drop(operation);
 }
