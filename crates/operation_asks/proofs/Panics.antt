@@ -8,9 +8,10 @@ use Rattle.rand_chacha.specs.ChaCha.{ChaCha}
 use Rattle.tee_base.specs.declared.codes.TheConstants.Code.{BUSY, MAC_INVALID}
 use Rattle.transient_obj.specs.declared.object_key.ObjectKey.{ObjectKey}
 use Rattle.crypto_ops.specs.declared.answer.OpAnswer.{OpAnswer}
+use Rattle.crypto_ops.specs.declared.sealed.OpSealed.{OpSealed}
 use Rattle.crypto_ops.specs.declared.answer.OpAnswer.TheVariants.{MacInvalid, Misuse, NotSupported, Short, NoMemory}
-use Rattle.crypto_ops.specs.Operations.{CryptoOperation, allocate_answer, after_comparison, copy_answer, with_copy_of}
-use Rattle.crypto_ops.specs.Operations.{is_too_much, with_key, may_change_key, mac_compare_answer, set_key_answer, without_key}
+use Rattle.crypto_ops.specs.Operations.{CryptoOperation, allocate_answer, after_comparison, after_ok, copy_answer, with_copy_of}
+use Rattle.crypto_ops.specs.Operations.{is_too_much, ae_open_answer, ae_seal_answer, with_key, may_change_key, mac_compare_answer, set_key_answer, without_key}
 use Rattle.crypto_ops.specs.Random.{stream_after, random_from}
 use Rattle.transient_obj.specs.declared.look.KeyLook.{KeyLook}
 use Rattle.transient_obj.specs.declared.look.KeyLook.TheVariants as gives
@@ -18,7 +19,7 @@ use Rattle.operation_asks.specs.declared.outcome.Outcome.TheVariants.{Answered, 
 use Rattle.operation_asks.proofs.AskLemmas.{same_some}
 use Rattle.operation_asks.specs.Asks.{CryptoState, Resolution, Settled, WantsKey, copy_between, resolution_in, free_by, free_effect, key_set, new_by, on_found}
 use Rattle.operation_asks.specs.Asks.{operation_resolution, random_effect, set_key_on, with_operations}
-use Rattle.operation_asks.specs.Effects.{Effect, answer_effect, content_by, done_effect, done_by, effect_in, panic_effect, refusal_effect, told_done}
+use Rattle.operation_asks.specs.Effects.{Effect, answer_effect, content_by, done_effect, done_by, effect_in, panic_effect, refusal_effect, told_content, told_done, told_sealed}
 use Rattle.operation_asks.specs.OneOperation.{one_effect}
 use Rattle.operation_asks.specs.Past.{key_effect}
 use Rattle.operation_asks.specs.Table.{NumberedOperation, with_numbered, with_changed, free_number, is_at, is_full, operation_at}
@@ -52,6 +53,18 @@ by_comparison (Err (Short needed)) o e = refl
 by_comparison (Err Misuse) o e = refl
 by_comparison (Err NoMemory) o e = refl
 
+by_sealed : (answer : Result OpSealed OpAnswer) (old new : CryptoOperation) → told_sealed answer ≡ Panicked → after_ok answer old new ≡ old
+by_sealed (Ok sealed) old new e = absurd (let h : Answered (answers.Sealed sealed.content sealed.tag) ≡ Panicked = e in cc)
+by_sealed (Err answer) old new e = refl
+
+by_opened : (answer : Result (List ℕ) OpAnswer) (o : CryptoOperation) → told_content answer ≡ Panicked → after_comparison answer o ≡ o
+by_opened (Ok content) o e = absurd (let h : Answered (answers.Content content) ≡ Panicked = e in cc)
+by_opened (Err MacInvalid) o e = absurd (let h : Answered (answers.Refused MAC_INVALID) ≡ Panicked = e in cc)
+by_opened (Err NotSupported) o e = refl
+by_opened (Err (Short needed)) o e = refl
+by_opened (Err Misuse) o e = refl
+by_opened (Err NoMemory) o e = refl
+
 one_keeps : (o : CryptoOperation) (ask : Ask) → KeepsAtPanic o (one_effect o ask)
 unfolding one_effect
 one_keeps o (asked.OpInfo op) e = refl
@@ -65,6 +78,11 @@ one_keeps o (asked.MacFinal op bytes room) e = by_content _ o _ e
 one_keeps o (asked.MacCompare op bytes mac) e = by_comparison (mac_compare_answer o bytes mac) o e
 one_keeps o (asked.DigestUpdate op bytes) e = by_done _ o _ e
 one_keeps o (asked.DigestFinal op bytes room) e = by_content _ o _ e
+one_keeps o (asked.AeInit op nonce tag_bits) e = by_done _ o _ e
+one_keeps o (asked.AeAad op bytes) e = by_done _ o _ e
+one_keeps o (asked.AeUpdate op bytes room) e = by_content _ o _ e
+one_keeps o (asked.AeSeal op bytes room tag_room) e = by_sealed (ae_seal_answer o bytes room tag_room) o _ e
+one_keeps o (asked.AeOpen op bytes room tag) e = by_opened (ae_open_answer o bytes room tag) o e
 one_keeps o ask e = refl
 
 -- ---- among the operations
@@ -158,6 +176,11 @@ resolution_keeps s i (asked.MacFinal op bytes room) = in_state s _ (on_keeps s.o
 resolution_keeps s i (asked.MacCompare op bytes mac) = in_state s _ (on_keeps s.operations i op (asked.MacCompare op bytes mac) (operation_at s.operations i op) refl)
 resolution_keeps s i (asked.DigestUpdate op bytes) = in_state s _ (on_keeps s.operations i op (asked.DigestUpdate op bytes) (operation_at s.operations i op) refl)
 resolution_keeps s i (asked.DigestFinal op bytes room) = in_state s _ (on_keeps s.operations i op (asked.DigestFinal op bytes room) (operation_at s.operations i op) refl)
+resolution_keeps s i (asked.AeInit op nonce tag_bits) = in_state s _ (on_keeps s.operations i op (asked.AeInit op nonce tag_bits) (operation_at s.operations i op) refl)
+resolution_keeps s i (asked.AeAad op bytes) = in_state s _ (on_keeps s.operations i op (asked.AeAad op bytes) (operation_at s.operations i op) refl)
+resolution_keeps s i (asked.AeUpdate op bytes room) = in_state s _ (on_keeps s.operations i op (asked.AeUpdate op bytes room) (operation_at s.operations i op) refl)
+resolution_keeps s i (asked.AeSeal op bytes room tag_room) = in_state s _ (on_keeps s.operations i op (asked.AeSeal op bytes room tag_room) (operation_at s.operations i op) refl)
+resolution_keeps s i (asked.AeOpen op bytes room tag) = in_state s _ (on_keeps s.operations i op (asked.AeOpen op bytes room tag) (operation_at s.operations i op) refl)
 resolution_keeps s i ask = λ e. refl
 
 -- so does the rest of an ask for a key
