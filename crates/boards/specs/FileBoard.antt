@@ -1,5 +1,5 @@
 -- What the contracts of a board over files see of it: its counts, and no contents.
-use Rattle.std.specs.Prelude.{◌≡◌, ℕ, List, [], Option, map}
+use Rattle.std.specs.Prelude.{◌≡◌, ℕ, Bool, List, [], Option, is_some, map}
 use Rattle.board.specs.declared.fuse.Fuse.TheVariants.{Unset}
 use Rattle.board.specs.Moment.{View}
 use Rattle.boards.specs.Device.{files_at, order_of}
@@ -29,9 +29,13 @@ pub record IsOpened (v : View) : Type 0 where
 abbrev pub seed_of : {F : Type 0} → FileBoard F → List ℕ
 seed_of b = b.keys.seed
 
--- the number of the counter that the board knows to be on the disk, where it knows one
+-- the number of the counter that the board knows to be on the disk, where it knows one; a missing file counts as 0
 abbrev pub number_of : {F : Type 0} → FileBoard F → Option ℕ
 number_of b = b.counter.number
+
+-- whether it has a counter file
+abbrev pub has_counter : {F : Type 0} → FileBoard F → Bool
+has_counter b = is_some b.counter.file
 
 -- all but the counts and the fuse is as it was: the files, what is known of them, and the keys
 pub record KeepsFiles {F : Type 0} (old new : FileBoard F) : Type 0 where

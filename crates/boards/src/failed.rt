@@ -102,6 +102,14 @@ impl FileBoardFailed {
             }),
         }
     }
+
+    /// Whether another process holds the file.
+    pub fn is_in_use(&self) -> bool {
+        match self {
+            FileBoardFailed::Failed(failure) => failure.fault == FileFault::InUse,
+            FileBoardFailed::NoMemory => false,
+        }
+    }
 }
 
 impl From<AllocError> for FileBoardFailed {

@@ -34,10 +34,11 @@ impl<F: Read + Write + Seek + OpenFile + Lock + Drop> FileBoard<F> {
     ghost use Rattle.boards.specs.FileBoard.{view_of, seed_of, IsOpened};
 
     /// Opens the board of the files `IMAGE`, `IMAGE.ctr` and `IMAGE.key`, and holds them until it is dropped. The first
-    /// two are made, blank, where they are missing, and an image of fewer blocks is lengthened. Both are on the disk as
-    /// they are read from then on. `Failed` where the key file is missing or hasn't 64 bytes, where the image isn't whole
-    /// blocks or the counter file hasn't 8 bytes, where one of them is no plain file, can't be used, or is held by another
-    /// process. It says which file it was, and what was wrong. Then no file is left that this call made.
+    /// two are made, blank, where they are missing, and an image of fewer blocks is lengthened. Beside an image that is in
+    /// use no counter file is made: where it is missing the counter is 0, and no `advance` succeeds. Both are on the disk
+    /// as they are read from then on. `Failed` where the key file is missing or hasn't 64 bytes, where the image isn't
+    /// whole blocks or the counter file hasn't 8 bytes, where one of them is no plain file, can't be used, or is held by
+    /// another process. It says which file it was, and what was wrong. Then no file is left that this call made.
     pub fn open<R: Files<File = F>>(
         rt: &R,
         alloc: Global,
@@ -47,7 +48,7 @@ impl<F: Read + Write + Seek + OpenFile + Lock + Drop> FileBoard<F> {
     {
         let keys = take_keys(rt, format!(in alloc; "{image}.key")?.as_str())?;
         let pair = take_pair(rt, alloc, image)?;
-        let counter = Counter::of_file(pair.counter)?;
+        let counter = Counter::of(pair.counter)?;
         let about = blame(
             BoardFile::Image,
             FileFault::Unreadable,
@@ -71,7 +72,8 @@ impl<F: Read + Write + Seek + OpenFile + Lock + Drop> FileBoard<F> {
     }
 }
 
-/// Syncs the file, unless a sync of it failed before.
+/// Syncs the data of the file, unless a sync of it failed before. Its length and its name are on the disk since it was
+/// opened, and no call changes them.
 fn sync_once<F: OpenFile>(file: &F, failed: &mut bool) -> io::Result<()>
     ensures refused { failed.old ≡ true → IsErr result }
     ensures stays { failed.old ≡ true → failed.new ≡ true }
@@ -80,13 +82,13 @@ fn sync_once<F: OpenFile>(file: &F, failed: &mut bool) -> io::Result<()>
     if *failed {
         return Err(io::ErrorKind::Other.into());
     }
-    let answer = file.sync_all();
+    let answer = file.sync_data();
     *failed = answer.is_err();
     answer
 }
 
 impl<F: Read + Write + Seek + OpenFile + Drop> Board for FileBoard<F> {
-    ghost use Rattle.boards.specs.FileBoard.{view_of, number_of, KeepsFiles};
+    ghost use Rattle.boards.specs.FileBoard.{view_of, number_of, has_counter, KeepsFiles};
 
     ghost tells_reads = { false };
 
@@ -153,6 +155,7 @@ impl<F: Read + Write + Seek + OpenFile + Drop> Board for FileBoard<F> {
             → number_of self.new ≡ number_of self.old }
         ensures full { number_of self.old ≡ Some (2 ^ 64 - 1)
             → number_of self.new ≡ number_of self.old }
+        ensures missing { has_counter self.old ≡ false → is_ok result ≡ false }
     {
         self.counts.begin()?;
         let answer = self.counter.raise();

@@ -7,6 +7,7 @@ use board::BLOCK;
 use std::alloc::Global;
 use std::fs::{File, OpenFile, OpenOptions};
 use std::io::{Read, Seek, SeekFrom, Write};
+use std::os::unix::fs::MetadataExt;
 use std::path::Path;
 use std::rt::Files;
 use std::{fs, io};
@@ -14,6 +15,12 @@ use tee_base::limits;
 
 /// How many blocks a new image has. A shorter one is lengthened.
 pub const NEW_BLOCKS: u64 = limits::BOARD_BLOCKS;
+
+/// How many bytes these are.
+const NEW_BYTES: u64 = NEW_BLOCKS * BLOCK as u64;
+
+/// How many bytes the system counts as one block of what it keeps of a file.
+const COUNTED_BYTES: u64 = 512;
 
 /// How many bytes the key file has: the board's key, and the random seed.
 const KEY_BYTES: u64 = 64;
@@ -45,7 +52,10 @@ pub struct Keys<F> {
 #[derive(Drop)]
 pub struct Pair<F> {
     pub image: F,
-    pub counter: F,
+    /// None where it is missing and the image is in use.
+    pub counter: Option<F>,
+    /// The folder may not have their names on the disk yet.
+    is_new: bool,
 }
 
 /// A file that was there, locked, and how many bytes it has.
@@ -169,44 +179,146 @@ fn check_lengths<F>(
     Ok(())
 }
 
-/// Lengthens an image of so many bytes to the length of a new one, by zeros. Its length changes in one step, so that no
-/// crash leaves another. The zeros are written besides, so that a full disk shows here and not at a later write.
-pub fn lengthen<F: Write + Seek + OpenFile>(file: &mut F, bytes: u64) -> io::Result<()> {
-    let blocks = bytes / BLOCK as u64;
-    if blocks >= NEW_BLOCKS {
-        return Ok(());
-    }
-    file.set_len(NEW_BLOCKS * BLOCK as u64)?;
-    file.seek(SeekFrom::Start(bytes))?;
-    for _ in blocks..NEW_BLOCKS {
+/// Writes zeros from this place of the image to the end of a new one.
+fn write_zeros<F: Write + Seek>(file: &mut F, from: u64) -> io::Result<()> {
+    file.seek(SeekFrom::Start(from))?;
+    for _ in from / BLOCK as u64..NEW_BLOCKS {
         file.write_all(&[0; BLOCK])?;
     }
     Ok(())
 }
 
-/// Makes the counter file beside an image that this call made or found. Where that fails, an image that it made goes.
-fn with_counter<R: Files>(
+/// Lengthens an image of so many bytes to the length of a new one, by zeros. Its length changes in one step, so that no
+/// crash leaves another. The zeros are written besides, so that a full disk shows here and not at a later write. Where
+/// that fails the image gets its length back.
+pub fn lengthen<F: Write + Seek + OpenFile>(file: &mut F, bytes: u64) -> io::Result<()> {
+    file.set_len(NEW_BYTES)?;
+    let written = write_zeros(file, bytes);
+    if written.is_err() {
+        let _ = file.set_len(bytes);
+    }
+    written
+}
+
+/// Whether the system keeps fewer bytes of the image than a new one has, as where a lengthening was cut off.
+fn has_holes<F: OpenFile>(file: &F) -> io::Result<bool> {
+    Ok(file.metadata()?.blocks() < NEW_BYTES / COUNTED_BYTES)
+}
+
+/// Writes each of these blocks again that is zeros. The first of them is at this place of the image.
+fn write_again<F: Write + Seek>(
+    file: &mut F,
+    at: u64,
+    blocks: &[u8; FRONT_BYTES],
+) -> io::Result<()> {
+    if is_zeros(blocks) {
+        return write_at(file, at, blocks);
+    }
+    let mut next = at;
+    for block in blocks.chunks(BLOCK) {
+        if is_zeros(block) {
+            write_at(file, next, block)?;
+        }
+        next = next.saturating_add(BLOCK as u64);
+    }
+    Ok(())
+}
+
+/// Writes each block again that is zeros, of those that a new image has: it may be one of which the system keeps nothing.
+fn fill_holes<F: Read + Write + Seek>(file: &mut F) -> io::Result<()> {
+    let mut blocks = [0; FRONT_BYTES];
+    for place in 0..NEW_BYTES / FRONT_BYTES as u64 {
+        let at = place * FRONT_BYTES as u64;
+        read_at(file, at, &mut blocks)?;
+        write_again(file, at, &blocks)?;
+    }
+    Ok(())
+}
+
+/// Gives an image of so many bytes the length of a new one, where it is shorter, and a place on the disk for each block
+/// that a new one has. It says whether the image was lengthened.
+fn complete<F: Read + Write + Seek + OpenFile>(file: &mut F, bytes: u64) -> io::Result<bool> {
+    let is_short = bytes < NEW_BYTES;
+    if is_short {
+        lengthen(file, bytes)?;
+    }
+    if has_holes(file)? {
+        fill_holes(file)?;
+    }
+    Ok(is_short)
+}
+
+/// Whether all of these bytes are 0.
+fn is_zeros(bytes: &[u8]) -> bool {
+    bytes.iter().all(|byte| *byte == 0)
+}
+
+/// Whether the image, of so many bytes, holds no gate and no header.
+fn is_blank<F: Read + Seek>(file: &mut F, bytes: u64) -> io::Result<bool> {
+    let mut front = [0; FRONT_BYTES];
+    let count = bytes.min(FRONT_BYTES as u64) as usize;
+    read_at(file, 0, &mut front[..count])?;
+    Ok(is_zeros(&front))
+}
+
+/// Completes the image that was found. A missing counter file is made beside a blank one alone: the number 0 beside an
+/// image that is in use would be a wrong one.
+fn with_found<R: Files>(
     rt: &R,
     alloc: Global,
-    names: (&str, &str),
-    image: R::File,
-    is_new: bool,
+    name: &str,
+    image: Found<R::File>,
+    counter: Option<Found<R::File>>,
 ) -> Result<Pair<R::File>, FileBoardFailed>
 where
     R::File: Lock,
 {
-    match make_counter(rt, alloc, names.1) {
-        Ok(counter) => Ok(Pair { image, counter }),
+    let Found { mut file, bytes } = image;
+    let blank = is_blank(&mut file, bytes);
+    let is_blank = blame(BoardFile::Image, FileFault::Unreadable, blank)?;
+    let completed = complete(&mut file, bytes);
+    let is_longer = blame(BoardFile::Image, FileFault::Unwritable, completed)?;
+    let counter = match counter {
+        Some(found) => Some(found.file),
+        None if is_blank => Some(make_counter(rt, alloc, name)?),
+        None => None,
+    };
+    Ok(Pair {
+        image: file,
+        counter,
+        is_new: is_blank || is_longer,
+    })
+}
+
+/// Makes the image, and the counter file where it is missing. Where that is refused the image goes.
+fn with_new<R: Files>(
+    rt: &R,
+    alloc: Global,
+    names: (&str, &str),
+    counter: Option<Found<R::File>>,
+) -> Result<Pair<R::File>, FileBoardFailed>
+where
+    R::File: Lock,
+{
+    let image = make_image(rt, names.0)?;
+    let counter = match counter {
+        Some(found) => Ok(found.file),
+        None => make_counter(rt, alloc, names.1),
+    };
+    match counter {
+        Ok(counter) => Ok(Pair {
+            image,
+            counter: Some(counter),
+            is_new: true,
+        }),
         Err(why) => {
-            if is_new {
-                take_away(rt, names.0, &image);
-            }
+            take_away(rt, names.0, &image);
             Err(why)
         }
     }
 }
 
-/// Takes the image and the counter file of these names for this process, makes what is missing, and lengthens the image.
+/// Takes the image and the counter file of these names for this process, makes what is missing, and completes the image.
 fn take_named<R: Files>(
     rt: &R,
     alloc: Global,
@@ -218,21 +330,9 @@ where
     let image = find(rt, BoardFile::Image, names.0)?;
     let counter = find(rt, BoardFile::Counter, names.1)?;
     check_lengths(&image, &counter)?;
-    let is_new = image.is_none();
-    let image = match image {
-        Some(mut found) => {
-            let longer = lengthen(&mut found.file, found.bytes);
-            blame(BoardFile::Image, FileFault::Unwritable, longer)?;
-            found.file
-        }
-        None => make_image(rt, names.0)?,
-    };
-    match counter {
-        Some(found) => Ok(Pair {
-            image,
-            counter: found.file,
-        }),
-        None => with_counter(rt, alloc, names, image, is_new),
+    match image {
+        Some(image) => with_found(rt, alloc, names.1, image, counter),
+        None => with_new(rt, alloc, names, counter),
     }
 }
 
@@ -254,24 +354,30 @@ fn folder_of(path: &str) -> Path<'_> {
     }
 }
 
-/// Has the system put both files and their folder on the disk.
+/// Has the system put the folder of this path on the disk.
+fn sync_folder<R: Files>(rt: &R, path: &str) -> Result<(), FileBoardFailed> {
+    let folder = fs::open(rt, folder_of(path));
+    let folder = blame(BoardFile::Folder, FileFault::Unreadable, folder)?;
+    blame(BoardFile::Folder, FileFault::Unsynced, folder.sync_all())
+}
+
+/// Has the system put both files on the disk, with their lengths, and where their names may be new their folder too.
 fn sync_pair<R: Files>(rt: &R, image: &str, pair: &Pair<R::File>) -> Result<(), FileBoardFailed>
 where
     R::File: Lock,
 {
     blame(BoardFile::Image, FileFault::Unsynced, pair.image.sync_all())?;
-    blame(
-        BoardFile::Counter,
-        FileFault::Unsynced,
-        pair.counter.sync_all(),
-    )?;
-    let folder = fs::open(rt, folder_of(image));
-    let folder = blame(BoardFile::Folder, FileFault::Unreadable, folder)?;
-    blame(BoardFile::Folder, FileFault::Unsynced, folder.sync_all())
+    if let Some(counter) = &pair.counter {
+        blame(BoardFile::Counter, FileFault::Unsynced, counter.sync_all())?;
+    }
+    if pair.is_new {
+        sync_folder(rt, image)?;
+    }
+    Ok(())
 }
 
-/// Takes the image and the counter file for this process, makes what is missing, and syncs both and their folder.
-/// Where that is refused no file is left that this call made.
+/// Takes the image and the counter file for this process, makes what is missing, and syncs both and, where their names may
+/// be new, their folder. Where that is refused no file is left that this call made.
 pub fn take_pair<R: Files>(
     rt: &R,
     alloc: Global,

@@ -14,8 +14,8 @@ use std::{fs, io};
 /// Who may read and write a new file: its owner alone, as it lies beside the key.
 const OWNER_ALONE: u32 = 0o600;
 
-/// How many names are tried for a file that isn't whole yet.
-const NAMES: u32 = 100;
+/// How many names there are for a file that isn't whole yet.
+const NAMES: u32 = u32::MAX;
 
 /// A new file of this path. It fails where something has that name.
 fn create<R: Files>(rt: &R, path: &str) -> io::Result<R::File> {
@@ -46,10 +46,32 @@ fn link<R: Files>(rt: &R, name: &str, path: &str) -> io::Result<()> {
     fs::hard_link(rt, name, path)
 }
 
-/// Takes away a file that this call made and holds. What can't be taken away is left.
+/// Takes away a file that this call made and no other process holds. What can't be taken away is left.
 pub fn take_away<R: Files>(rt: &R, path: &str, file: &R::File) {
     if let Ok(true) = leads_to(rt, path, file) {
         let _ = remove(rt, path);
+    }
+}
+
+/// Takes a new file of this path for this process. Where the system refuses the lock the file goes. Where another process
+/// holds it by then, it stays.
+fn hold_new<R: Files>(
+    rt: &R,
+    role: BoardFile,
+    path: &str,
+    file: &R::File,
+) -> Result<(), FileBoardFailed>
+where
+    R::File: Lock,
+{
+    match hold(role, file) {
+        Ok(()) => Ok(()),
+        Err(why) => {
+            if !why.is_in_use() {
+                take_away(rt, path, file);
+            }
+            Err(why)
+        }
     }
 }
 
@@ -61,7 +83,7 @@ where
 {
     let created = create(rt, path);
     let mut file = blame(BoardFile::Image, FileFault::Unwritable, created)?;
-    hold(BoardFile::Image, &file)?;
+    hold_new(rt, BoardFile::Image, path, &file)?;
     match lengthen(&mut file, 0) {
         Ok(()) => Ok(file),
         Err(error) => {
@@ -88,7 +110,7 @@ where
             Err(error) if error.kind() == io::ErrorKind::AlreadyExists => {}
             created => {
                 let file = blame(role, FileFault::Unwritable, created)?;
-                hold(role, &file)?;
+                hold_new(rt, role, name.as_str(), &file)?;
                 return Ok((file, name));
             }
         }

@@ -65,7 +65,7 @@ module _ {A : Type 0} where
     dead_gone = λ m session same. ap (λ k. k + 1) same;
     waits = λ m client i session call same. ap (λ k. k + 1) same;
     closes = λ m client i session call same. ap (λ k. k + 1) same;
-    opens = λ m client label a call same. ap (λ k. k + 1) same;
+    opens = λ m client label login a call same. ap (λ k. k + 1) same;
   }
 
   turned_next : (behaviour : Behaviour A) (serving : Serving) (m : Machine A) (i : ℕ) → (turned_as behaviour serving m i).machine.queue.next ≡ m.queue.next

@@ -13,7 +13,7 @@ use Rattle.sample_apps.specs.declared.crypt.Class.{Class}
 use Rattle.sample_apps.specs.declared.crypt.Waiting.{Waiting}
 use Rattle.sample_apps.specs.declared.crypt.Waiting.TheVariants as waiting
 use Rattle.sample_apps.specs.declared.crypt.commands.Command.{Command}
-use Rattle.sample_apps.specs.declared.crypt.commands.Command.TheVariants.{SetUp, Update, Finish, Compare}
+use Rattle.sample_apps.specs.declared.crypt.commands.Command.TheVariants.{SetUp, Update, Finish, Compare, Open}
 use Rattle.tee_base.specs.declared.codes.TheConstants.Code.{GENERIC, BAD_PARAMETERS}
 use Rattle.app_kit.specs.Reactions.{succeed_with, fail_with}
 use Rattle.sample_apps.specs.CryptCommands.{command_of}
@@ -26,6 +26,7 @@ reaction_to_command c (SetUp plan) = first.set_up c plan
 reaction_to_command c (Update bytes room) = messages.update c c.class bytes room
 reaction_to_command c (Finish bytes room) = messages.finish c c.class bytes room
 reaction_to_command c (Compare bytes mac) = messages.compare c c.class bytes mac
+reaction_to_command c (Open bytes tag room) = messages.open_last c c.class bytes tag room
 
 -- an unknown command, or one with parameters of other kinds, is refused before anything else
 unfoldable pub reaction_to_invocation : Crypt → Option Command → Reaction Crypt
@@ -49,6 +50,8 @@ beginning_at op (Some class) = first.beginning_of op class
 unfoldable pub beginning_while : ℕ → Option Class → Waiting → Option Ask
 beginning_while op class (waiting.ClosingKey next) = first.beginning_of op next
 beginning_while op class waiting.Finishing = beginning_at op class
+beginning_while op class (waiting.Sealing size) = beginning_at op class
+beginning_while op class waiting.Opening = beginning_at op class
 beginning_while op class what = None
 
 -- an answer comes to command 1, which waits. The beginning is the ask that begins a message
@@ -67,6 +70,9 @@ unfoldable pub reaction_while : Crypt → Waiting → Option Ask → Answer → 
 reaction_while c waiting.Enciphering beginning answer = messages.after_cipher_update c answer
 reaction_while c waiting.Absorbing beginning answer = messages.after_absorption c answer
 reaction_while c waiting.Finishing beginning answer = messages.after_final c beginning answer
+reaction_while c (waiting.Sealing size) beginning answer = messages.after_seal c beginning size answer
+reaction_while c waiting.Opening beginning answer = messages.after_open c beginning answer
+reaction_while c (waiting.Reopening content) beginning answer = messages.after_opened_beginning c content answer
 reaction_while c (waiting.Renewing content) beginning answer = messages.after_next_beginning c content answer
 reaction_while c waiting.Comparing beginning answer = messages.after_mac_compare c answer
 reaction_while c (waiting.Judging code) beginning answer = messages.after_compared_beginning c code answer

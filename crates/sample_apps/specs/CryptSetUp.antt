@@ -1,5 +1,5 @@
 -- Command 1 of the sample application Crypt: the asks that set up an operation, each after the answer to the one before
--- (TEE Internal Core API 1.3, sections 5.6 and 6.2 to 6.5). A refusal ends the command with its code; an answer that the ask
+-- (TEE Internal Core API 1.3, sections 5.6 and 6.2 to 6.7). A refusal ends the command with its code; an answer that the ask
 -- can't give ends it with GENERIC.
 use Rattle.std.specs.Prelude.{ℕ, ◌-◌, ◌*◌, ◌^◌, ◌==◌, min, List, length, Option, None, Some, if◌then◌else◌}
 use Rattle.tee_base.specs.declared.keys.TheConstants as numbers
@@ -11,7 +11,7 @@ use Rattle.app_api.specs.Outs.{no_outs}
 use Rattle.app_kit.specs.declared.reaction.Reaction.{Reaction}
 use Rattle.sample_apps.specs.declared.crypt.Crypt.{Crypt}
 use Rattle.sample_apps.specs.declared.crypt.Class.{Class}
-use Rattle.sample_apps.specs.declared.crypt.Class.TheVariants.{Cipher, Mac, Digest}
+use Rattle.sample_apps.specs.declared.crypt.Class.TheVariants.{Cipher, Ae, Mac, Digest}
 use Rattle.sample_apps.specs.declared.crypt.commands.Plan.{Plan}
 use Rattle.sample_apps.specs.declared.crypt.Waiting.{Waiting}
 use Rattle.sample_apps.specs.declared.crypt.Waiting.TheVariants as waiting
@@ -42,6 +42,8 @@ key_kind alg =
     if alg == numbers.AES_ECB then Some numbers.KIND_AES
     else if alg == numbers.AES_CBC then Some numbers.KIND_AES
     else if alg == numbers.AES_CTR then Some numbers.KIND_AES
+    else if alg == numbers.AES_GCM then Some numbers.KIND_AES
+    else if alg == numbers.AES_CMAC then Some numbers.KIND_AES
     else if alg == numbers.HMAC_SHA256 then Some numbers.KIND_HMAC_SHA256
     else if alg == numbers.HMAC_SHA384 then Some numbers.KIND_HMAC_SHA384
     else if alg == numbers.HMAC_SHA512 then Some numbers.KIND_HMAC_SHA512
@@ -52,18 +54,27 @@ abbrev pub greatest_size : Option ℕ → ℕ
 greatest_size None = 0
 greatest_size (Some kind) = if kind == numbers.KIND_AES then 256 else 1024
 
--- what an operation with such a key computes
-abbrev pub class_of : Option ℕ → List ℕ → Class
-class_of None iv = Digest
-class_of (Some kind) iv = if kind == numbers.KIND_AES then Cipher iv else Mac
+-- what an operation of an algorithm with such a key computes
+abbrev pub class_of : ℕ → Option ℕ → List ℕ → Class
+class_of alg None iv = Digest
+class_of alg (Some kind) iv =
+    if alg == numbers.AES_GCM then Ae iv
+    else if alg == numbers.AES_CMAC then Mac
+    else if kind == numbers.KIND_AES then Cipher iv
+    else Mac
 
 -- the size of a key in bits. One that no 32 bits hold fits no kind of key, as the number here doesn't
 unfoldable pub bits_of : Key → ℕ
 bits_of key = min (8 * length key) (2 ^ 32 - 1)
 
+-- how many bits the tag has of a message that is authenticated and encrypted
+abbrev pub tag_bits : ℕ
+tag_bits = 128
+
 -- the ask that begins a message; a digest needs none
 unfoldable pub beginning_of : ℕ → Class → Option Ask
 beginning_of op (Cipher iv) = Some (asked.CipherInit op iv)
+beginning_of op (Ae nonce) = Some (asked.AeInit op nonce tag_bits)
 beginning_of op Mac = Some (asked.MacInit op)
 beginning_of op Digest = None
 
@@ -83,7 +94,7 @@ after_op_free c plan answer = refusal_of c answer
 -- an algorithm with a key gets an object for it
 abbrev pub key_or_readiness : Crypt → Plan → Option ℕ → Reaction Crypt
 key_or_readiness c plan None = readiness c Digest
-key_or_readiness c plan (Some kind) = wait_for c (waiting.MakingKey plan.key (class_of (Some kind) plan.iv)) (asked.KeyNew kind (bits_of plan.key))
+key_or_readiness c plan (Some kind) = wait_for c (waiting.MakingKey plan.key (class_of plan.alg (Some kind) plan.iv)) (asked.KeyNew kind (bits_of plan.key))
 
 -- the operation is there: an object for its key is next, or it is set up
 unfoldable pub after_op_new : Crypt → Plan → Answer → Reaction Crypt

@@ -1,9 +1,10 @@
 -- What Store does with the answers to its asks. A refusal ends the command with its code; an answer that the ask can't give
 -- ends it with GENERIC.
 use Rattle.std.specs.Prelude.{ℕ, ◌==◌, nat_lt, if◌then◌else◌, List, [], ◌∷◌, ◌++◌, length}
+use Rattle.std.specs.Int.{w32, to_le_bytes}
 use Rattle.tee_base.specs.declared.codes.Code.{Code}
 use Rattle.app_api.specs.declared.ask.Answer.{Answer}
-use Rattle.app_api.specs.declared.ask.Answer.TheVariants.{Done, Refused, Number, Truth, Content, Short, Object, Found}
+use Rattle.app_api.specs.declared.ask.Answer.TheVariants.{Done, Refused, Number, Truth, Content, Short, Object, Found, Identity}
 use Rattle.app_api.specs.declared.ask.Ask.TheVariants as asked
 use Rattle.app_api.specs.declared.out.Out.TheVariants.{Value, Mem, Size}
 use Rattle.app_api.specs.declared.out.Outs.{Outs}
@@ -11,7 +12,7 @@ use Rattle.app_api.specs.Outs.{no_outs}
 use Rattle.app_kit.specs.declared.reaction.Reaction.{Reaction}
 use Rattle.sample_apps.specs.declared.store.Store.{Store}
 use Rattle.sample_apps.specs.declared.store.Store.TheVariants.{Idle, Opening, Creating, Acting, Describing, Reading, MakingList, StartingList}
-use Rattle.sample_apps.specs.declared.store.Store.TheVariants.{Listing, FreeingList, Polling, Unmasking, Watching, Drawing}
+use Rattle.sample_apps.specs.declared.store.Store.TheVariants.{Listing, FreeingList, Polling, Unmasking, Watching, Drawing, Identifying}
 use Rattle.tee_base.specs.declared.codes.TheConstants.Code.{GENERIC, CANCEL, ITEM_NOT_FOUND, SHORT_BUFFER}
 use Rattle.app_kit.specs.Reactions.{ask_for, return_with, succeed_with, fail_with, at_p0, at_p1, at_p2, at_p3}
 use Rattle.sample_apps.specs.StoreCommands.{polls, watches}
@@ -119,6 +120,15 @@ random_drawn (Content bytes) = end_command (at_p0 (Mem bytes))
 random_drawn (Short size) = too_short (at_p0 (Size size))
 random_drawn answer = end_with_refusal answer
 
+-- 16: the number of the login in four bytes, lowest first, and then the identifier
+abbrev pub identity_told : ℕ → List ℕ → Reaction Store
+identity_told login id = end_command (at_p0 (Mem (to_le_bytes w32 login ++ id)))
+
+-- 16: who the client is
+unfoldable pub client_identified : Answer → Reaction Store
+client_identified (Identity login id) = identity_told login id
+client_identified answer = end_with_refusal answer
+
 -- an answer comes to the command that waits; where none waits, none can come
 unfoldable pub after_answer : Store → Answer → Reaction Store
 after_answer Idle answer = end_with_code GENERIC
@@ -135,3 +145,4 @@ after_answer (Polling left) answer = flag_polled left answer
 after_answer (Unmasking n) answer = flag_unmasked n answer
 after_answer (Watching left) answer = flag_watched left answer
 after_answer Drawing answer = random_drawn answer
+after_answer Identifying answer = client_identified answer

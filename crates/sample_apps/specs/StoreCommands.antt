@@ -10,7 +10,7 @@ use Rattle.app_api.specs.declared.param.Params.{Params}
 use Rattle.app_api.specs.Outs.{no_outs}
 use Rattle.app_kit.specs.declared.reaction.Reaction.{Reaction}
 use Rattle.sample_apps.specs.declared.store.Store.{Store}
-use Rattle.sample_apps.specs.declared.store.Store.TheVariants.{Idle, Opening, Creating, Acting, Describing, Reading, MakingList, Polling, Unmasking, Watching, Drawing}
+use Rattle.sample_apps.specs.declared.store.Store.TheVariants.{Idle, Opening, Creating, Acting, Describing, Reading, MakingList, Polling, Unmasking, Watching, Drawing, Identifying}
 use Rattle.tee_base.specs.declared.codes.TheConstants.Code.{BAD_PARAMETERS}
 use Rattle.app_kit.specs.Reactions.{ask_for, succeed_with, fail_with}
 
@@ -105,6 +105,11 @@ unfoldable pub draw_random : Param → Param → Param → Param → Reaction St
 draw_random (MemOut room) Nothing Nothing Nothing = ask_for Drawing (asked.Random room)
 draw_random p0 p1 p2 p3 = misfit
 
+-- 16: who the client is
+unfoldable pub identify_client : Param → Param → Param → Param → Reaction Store
+identify_client (MemOut room) Nothing Nothing Nothing = ask_for Identifying asked.ClientIdentity
+identify_client p0 p1 p2 p3 = misfit
+
 -- what the command of this number asks for first, by its four parameters
 abbrev pub command_at : ℕ → Param → Param → Param → Param → Reaction Store
 command_at n p0 p1 p2 p3 =
@@ -123,6 +128,7 @@ command_at n p0 p1 p2 p3 =
     else if n == 13 then poll_flag p0 p1 p2 p3
     else if n == 14 then watch_flag p0 p1 p2 p3
     else if n == 15 then draw_random p0 p1 p2 p3
+    else if n == 16 then identify_client p0 p1 p2 p3
     else misfit
 
 -- a command begins

@@ -7,6 +7,7 @@ mod set_up;
 
 use app_api::{Answer, Application, Ask, Entry, Given, Outs};
 use commands::{Command, Plan, command_of};
+use messages::joined_of;
 use std::alloc::Global;
 use std::{fmt, mem};
 use tee_base::{Bytes, Code, NoMemory};
@@ -16,6 +17,8 @@ use tee_base::{Bytes, Code, NoMemory};
 pub enum Class {
     /// A cipher, with the vector that each message begins with.
     Cipher { iv: Bytes },
+    /// Authenticated encryption, with the nonce that each message begins with.
+    Ae { nonce: Bytes },
     /// A message authentication code.
     Mac,
     /// A digest.
@@ -49,11 +52,17 @@ pub enum Waiting {
     Absorbing,
     /// 3: the message ends.
     Finishing,
+    /// 3: the message ends with a tag. The two have so many bytes.
+    Sealing { size: u32 },
     /// 3: the next message begins, after this came of the one before.
     Renewing { content: Bytes },
+    /// 5: the message ends, and its tag is compared.
+    Opening,
+    /// 5: the next message begins, after this came of the one before.
+    Reopening { content: Bytes },
     /// 4: the message ends, and its code is compared.
     Comparing,
-    /// 4: the next message begins, after this was said of the one before.
+    /// 4 and 5: the next message begins, after this was said of the one before.
     Judging { code: Code },
 }
 
@@ -75,6 +84,7 @@ impl Crypt {
     ghost use Rattle.std.specs.Prelude.{◌≡◌, IfOk, OnErr};
     ghost use Rattle.app_kit.specs.Reactions.{ask_for, return_with, succeed_with, fail_with};
     ghost use Rattle.sample_apps.specs.CryptSetUp.{new_crypt, idle, wait_for, refusal_of};
+    ghost use Rattle.sample_apps.specs.CryptMessages.{joined_of};
     ghost use Rattle.sample_apps.specs.Crypt as rows;
 
     /// No operation yet.
@@ -153,6 +163,7 @@ impl Crypt {
             Command::Update { bytes, room } => self.update(bytes, room),
             Command::Finish { bytes, room } => self.finish(bytes, room),
             Command::Compare { bytes, mac } => self.compare(bytes, mac),
+            Command::Open { bytes, tag, room } => self.open_last(bytes, tag, room),
         }
     }
 
@@ -191,7 +202,8 @@ impl Crypt {
             (λ ask. ask ≡ rows.beginning_while self.now.op self.now.class self.now.waiting) }
     {
         match (&self.waiting, &self.class) {
-            (Waiting::ClosingKey { class }, _) | (Waiting::Finishing, Some(class)) => {
+            (Waiting::ClosingKey { class }, _)
+            | (Waiting::Finishing | Waiting::Sealing { .. } | Waiting::Opening, Some(class)) => {
                 class.beginning(alloc, self.op)
             }
             _ => Ok(None),
@@ -235,15 +247,18 @@ impl Crypt {
         }
     }
 
-    /// An answer comes to a command that waits for this. Nothing is said of what is left of it and of the beginning.
+    /// An answer comes to a command that waits for this, with the text and the tag that it has. Nothing is said of what is left
+    /// of them and of the beginning.
     #[tactic(auto, unfolding(crate::specs::Crypt::reaction_while))]
     fn go_on(
         &mut self,
         alloc: Global,
         waiting: &mut Waiting,
         beginning: &mut Option<Ask>,
+        joined: &mut Bytes,
         answer: Answer,
     ) -> Ask
+        requires { joined.old ≡ joined_of answer }
         ensures { ask_for self.new result
             ≡ rows.reaction_while self.old waiting.old beginning.old answer }
     {
@@ -251,6 +266,15 @@ impl Crypt {
             Waiting::Enciphering => self.after_cipher_update(answer),
             Waiting::Absorbing => self.after_absorption(alloc, answer),
             Waiting::Finishing => self.after_final(beginning.take(), answer),
+            Waiting::Sealing { size } => {
+                let bytes = mem::replace(joined, Bytes::empty(alloc));
+                self.after_seal(beginning.take(), *size, bytes, answer)
+            }
+            Waiting::Opening => self.after_open(beginning.take(), answer),
+            Waiting::Reopening { content } => {
+                let content = mem::replace(content, Bytes::empty(alloc));
+                self.after_opened_beginning(content, answer)
+            }
             Waiting::Renewing { content } => {
                 let content = mem::replace(content, Bytes::empty(alloc));
                 self.after_next_beginning(content, answer)
@@ -262,12 +286,19 @@ impl Crypt {
     }
 
     /// An answer comes to the command that waits. Nothing is said of what is left of the beginning.
-    fn resume(&mut self, alloc: Global, beginning: &mut Option<Ask>, answer: Answer) -> Ask
+    fn resume(
+        &mut self,
+        alloc: Global,
+        beginning: &mut Option<Ask>,
+        joined: &mut Bytes,
+        answer: Answer,
+    ) -> Ask
+        requires { joined.old ≡ joined_of answer }
         ensures { ask_for self.new result
             ≡ rows.reaction_while (idle self.old) self.old.waiting beginning.old answer }
     {
         let mut waiting = mem::replace(&mut self.waiting, Waiting::Nothing);
-        let ask = self.go_on(alloc, &mut waiting, beginning, answer);
+        let ask = self.go_on(alloc, &mut waiting, beginning, joined, answer);
         drop(waiting);
         ask
     }
@@ -285,8 +316,17 @@ impl Crypt {
                 return Err(want);
             }
         };
-        let ask = self.resume(alloc, &mut beginning, answer);
+        let mut joined = match joined_of(alloc, &answer) {
+            Ok(joined) => joined,
+            Err(want) => {
+                drop(beginning);
+                drop(answer);
+                return Err(want);
+            }
+        };
+        let ask = self.resume(alloc, &mut beginning, &mut joined, answer);
         drop(beginning);
+        drop(joined);
         Ok(ask)
     }
 }

@@ -40,6 +40,8 @@ pub enum Store {
     Watching { left: u32 },
     /// 15: for the bytes.
     Drawing,
+    /// 16: for who the client is.
+    Identifying,
 }
 
 impl Store {
@@ -94,6 +96,7 @@ impl Store {
             Store::Unmasking { polls } => answers::flag_unmasked(*polls, answer),
             Store::Watching { left } => answers::flag_watched(*left, answer),
             Store::Drawing => answers::random_drawn(answer),
+            Store::Identifying => answers::client_identified(alloc, answer)?,
         };
         Ok(reaction)
     }
@@ -135,6 +138,7 @@ impl Application for Store {
             Store::Unmasking { polls } => Store::Unmasking { polls: *polls },
             Store::Watching { left } => Store::Watching { left: *left },
             Store::Drawing => Store::Drawing,
+            Store::Identifying => Store::Identifying,
         };
         Ok(store)
     }

@@ -165,12 +165,16 @@ const GONE_ON: &[Row] = &[
     Row::Orders(2, 3),
 ];
 
-/// The blocks that were there are as they were, and the others are zeros.
+/// The blocks that were there are as they were, and the others are zeros. The image is in use and has no counter file: the
+/// counter is 0, and can't be raised.
 const LENGTHENED: &[Row] = &[
     Row::Blocks(NEW_BLOCKS),
     Row::Filled(1, 3),
     Row::Filled(2, 0),
     Row::Filled(43_719, 0),
+    Row::Counter(Some(0)),
+    Row::Advance(None),
+    Row::Counter(None),
 ];
 
 #[test]
@@ -206,6 +210,7 @@ fn files_that_are_no_board_are_refused(rt: HostRuntime) {
         ("", Act::Write(&[3; 2048])),
         ("", Act::Open(LENGTHENED)),
         ("", Act::Is(Some(NEW_BYTES))),
+        (".ctr", Act::Is(None)),
         // a short counter file, beside an image and without: no image is made
         (".ctr", Act::Write(&[0; 7])),
         ("", Act::Refused(Counter, WrongLength)),

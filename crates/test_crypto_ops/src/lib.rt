@@ -5,6 +5,8 @@
 #[cfg(test)]
 mod about;
 #[cfg(test)]
+mod authenticated;
+#[cfg(test)]
 mod calls;
 #[cfg(test)]
 mod operations;

@@ -1,7 +1,7 @@
 //! Published vectors in pieces, what `new` refuses, and each call once.
 
 use crate::about::is_new;
-use crate::calls::{Do, NO_BYTES, Row, Told, check};
+use crate::calls::{Do, Kind, NO_BYTES, Row, Told, check, go_apart, new, run};
 use crate::vectors::{
     ABC, AES_KEY, CBC, CBC_1, CBC_VECTOR, COUNTER, CTR, CTR_5, ECB, HMAC_CODE, HMAC_KEY, LARGEST,
     PLAIN, PLAIN_1, PLAIN_5, PLAIN_7, PLAIN_BEHIND_7, PLAIN_FEW, PLAIN_REST, SHORT_CODE,
@@ -11,9 +11,6 @@ use crypto_ops::{OpAnswer, Operation};
 use std::alloc::Global;
 use std::process::Abort;
 use tee_base::{Bytes, keys};
-
-/// What a new operation is of: the algorithm, the mode and the greatest size.
-type Kind = (u32, u32, u32);
 
 const ECB_ENCRYPTION: Kind = (keys::AES_ECB, keys::MODE_ENCRYPT, 256);
 
@@ -48,19 +45,6 @@ const CBC_BEGUN: Row<'static> = (Do::CipherInit(CBC_VECTOR), Told::Done);
 const CTR_BEGUN: Row<'static> = (Do::CipherInit(COUNTER), Told::Done);
 
 const CODE_BEGUN: Row<'static> = (Do::MacInit, Told::Done);
-
-/// A new operation.
-fn new(rt: &impl Abort, kind: Kind) -> Operation {
-    let (alg, mode, max_bits) = kind;
-    Operation::new(alg, mode, max_bits).expect(rt, "an operation")
-}
-
-/// Makes the calls of the rows in order on a new operation.
-fn run(rt: &impl Abort, alloc: Global, kind: Kind, rows: &[Row<'_>]) {
-    let mut operation = new(rt, kind);
-    check(rt, alloc, &mut operation, rows);
-    drop(operation);
-}
 
 /// Where a piece begins and ends.
 type Range = (usize, usize);
@@ -249,35 +233,12 @@ fn digests(rt: HostRuntime) {
     run(&rt, rt.alloc(), DIGEST, ROWS);
 }
 
-/// Has a new operation take over another, and makes calls on the copy.
-fn check_copy(rt: &impl Abort, alloc: Global, from: &Operation, kind: Kind, rows: &[Row<'_>]) {
-    let mut copy = new(rt, kind);
-    copy.copy_from(from).expect(rt, "a copy");
-    check(rt, alloc, &mut copy, rows);
-    drop(copy);
-}
-
-/// The same, where the copy is misuse.
+/// Has a new operation take over another, which is misuse.
 fn check_no_copy(rt: &impl Abort, from: &Operation, kind: Kind) {
     let mut copy = new(rt, kind);
     let answer = copy.copy_from(from);
     drop(copy);
     assert!(rt; matches!(answer, Err(OpAnswer::Misuse)));
-}
-
-/// Makes the calls that begin an operation and takes it over, and goes on with both.
-fn go_apart(
-    rt: &impl Abort,
-    alloc: Global,
-    operation: &mut Operation,
-    begun: &[Row<'_>],
-    kind: Kind,
-    copied: &[Row<'_>],
-    ended: &[Row<'_>],
-) {
-    check(rt, alloc, operation, begun);
-    check_copy(rt, alloc, operation, kind, copied);
-    check(rt, alloc, operation, ended);
 }
 
 #[test]
@@ -371,6 +332,11 @@ const TABLE: &[(u32, [bool; 6], [bool; 6])] = &[
         [false, true, true, true, false, false],
     ),
     (
+        keys::AES_GCM,
+        [true, true, false, false, false, false],
+        [false, true, true, true, false, false],
+    ),
+    (
         keys::HMAC_SHA256,
         [false, false, false, false, true, false],
         [false, false, true, true, true, false],
@@ -384,6 +350,11 @@ const TABLE: &[(u32, [bool; 6], [bool; 6])] = &[
         keys::HMAC_SHA512,
         [false, false, false, false, true, false],
         [false, false, false, true, true, false],
+    ),
+    (
+        keys::AES_CMAC,
+        [false, false, false, false, true, false],
+        [false, true, true, true, false, false],
     ),
     (
         keys::SHA256,

@@ -2,7 +2,7 @@
 
 use crate::adding::add;
 use alone::{AppLog, Call, LogEvent, Outputs, Replies, Reply, Shown};
-use app_api::{Param, Params};
+use app_api::{Login, Param, Params};
 use report::log_lines;
 use std::alloc::Global;
 use std::process::Abort;
@@ -45,9 +45,10 @@ fn answered(client: u8, event: LogEvent, reply: Reply, lines: &'static [u8]) -> 
     }
 }
 
-fn open(label: u32) -> LogEvent {
+fn open(label: u32, login: Login) -> LogEvent {
     LogEvent::Call(Call::Open {
         label,
+        login,
         params: Params::nothing(),
     })
 }
@@ -87,7 +88,7 @@ fn returned(alloc: Global) -> Result<Reply, NoMemory> {
 /// A client opens a session, another invokes, and each makes a turn.
 fn calls(alloc: Global) -> Result<Vec<Row>, NoMemory> {
     let mut rows = Vec::new(alloc);
-    rows.push(quiet(0, open(1), b"keep log 1 c0 call 1 open 1\n"))?;
+    rows.push(quiet(0, open(1, Login::User(1_000)), b"keep log 1 c0 call 1 open 1 user:1000\n"))?;
     rows.push(quiet(
         7,
         invoke(alloc)?,
@@ -119,7 +120,7 @@ fn refusals(alloc: Global) -> Result<Vec<Row>, NoMemory> {
         plain(1, Code::CANCEL, Origin::Tee),
         b"keep log 7 c3 cancel 1\nkeep 1 ffff0002 3\n",
     ))?;
-    rows.push(quiet(5, open(0), b"keep log 8 c5 call 4 open 0\n"))?;
+    rows.push(quiet(5, open(0, Login::Public), b"keep log 8 c5 call 4 open 0\n"))?;
     Ok(rows)
 }
 
@@ -131,7 +132,7 @@ fn losses(alloc: Global) -> Result<Vec<Row>, NoMemory> {
     rows.push(quiet(5, LogEvent::Corrupted(2), b"keep log 9 c5 corrupt 2\n"))?;
     rows.push(quiet(5, LogEvent::TurnLost(2), b"keep log 10 c5 lost-turn 2\n"))?;
     rows.push(quiet(1, LogEvent::Lost, b"keep log 11 c1 lost\n"))?;
-    rows.push(quiet(1, open(1), b"keep log 12 c1 call 5 open 1\n"))?;
+    rows.push(quiet(1, open(1, Login::Public), b"keep log 12 c1 call 5 open 1\n"))?;
     rows.push(Row {
         client: 5,
         event: LogEvent::Starve(4),

@@ -97,7 +97,13 @@ false > 00000000
 content xyz > 00000000 p0=xyz
 15 mo:3 > Random 3
 refused ffff000d > ffff000d
+16 mo:20 > ClientIdentity
+identity 67305985 abcdefghijklmnop > 00000000 p0=<1><2><3><4>abcdefghijklmnop
+16 mo:4 > ClientIdentity
+refused ffff0008 > ffff0008
 16 vi:5:1 > ffff0006
+16 mo:20 vo > ffff0006
+17 mo:20 > ffff0006
 3 vi:5:1 > ObjClose 5
 number 5 > ffff0000
 done > ffff0000
@@ -201,6 +207,67 @@ stop > 00000000
 destroy > 00000000
 ";
 
+/// Authenticated encryption, and a code by the same cipher.
+const SEALED: &str = "\
+5 mi:ab mi:t mo:4 > ffff0007
+5 mi:ab mi:t > ffff0006
+1 mi:k vi:1073743888:0 mi:n > OpFree 0
+done > OpNew 1073743888 0 256
+number 3 > KeyNew 2684354576 8
+number 5 > KeyPopulate 5 k
+done > OpSetKey 3 5
+done > ObjClose 5
+done > AeInit 3 n 128
+done > 00000000
+2 mi:ab mo:1 > AeUpdate 3 ab 1
+short 2 > ffff0010 p1=2!
+2 mi:ab mo:2 > AeUpdate 3 ab 2
+content xy > 00000000 p1=xy
+3 mi:ab mo:0 > AeSeal 3 ab 0 0
+short 2 > ffff0010 p1=18!
+3 mi:ab mo:15 > AeSeal 3 ab 0 15
+short 2 > ffff0010 p1=18!
+3 mi:ab mo:16 > AeSeal 3 ab 0 16
+short 2 > ffff0010 p1=18!
+3 mi: mo:15 > AeSeal 3  0 15
+short 16 > ffff0010 p1=16!
+3 mi:ab mo:31 > AeSeal 3 ab 15 16
+sealed xy tag > AeInit 3 n 128
+done > 00000000 p1=xytag
+3 mi:ab mo:31 > AeSeal 3 ab 15 16
+content xy > ffff0000
+4 mi:ab mi:t > ffff0007
+5 mi:ab mi:t mo:2 > AeOpen 3 ab 2 t
+content xy > AeInit 3 n 128
+done > 00000000 p2=xy
+5 mi:ab mi:t mo:2 > AeOpen 3 ab 2 t
+refused ffff3071 > AeInit 3 n 128
+done > ffff3071
+5 mi:ab mi:t mo:1 > AeOpen 3 ab 1 t
+short 2 > ffff0010 p2=2!
+5 mi:ab mi:t mo:2 > AeOpen 3 ab 2 t
+refused ffff000d > ffff000d
+5 mi:ab mi:t mo:2 > AeOpen 3 ab 2 t
+done > ffff0000
+1 mi:k vi:805307920:4 mi:n > OpFree 3
+done > OpNew 805307920 4 256
+number 3 > KeyNew 2684354576 8
+number 5 > KeyPopulate 5 k
+done > OpSetKey 3 5
+done > ObjClose 5
+done > MacInit 3
+done > 00000000
+2 mi:ab mo:0 > MacUpdate 3 ab
+done > 00000000 p1=
+3 mi:ab mo:16 > MacFinal 3 ab 16
+content c > MacInit 3
+done > 00000000 p1=c
+4 mi:ab mi:c > MacCompare 3 ab c
+done > MacInit 3
+done > 00000000
+5 mi:ab mi:t mo:2 > ffff0007
+";
+
 const ROGUE: &str = "\
 create > 00000000
 start > 00000000
@@ -272,6 +339,11 @@ fn count_by_its_table(rt: HostRuntime) -> Result<(), Fail> {
 #[test]
 fn crypt_by_its_table(rt: HostRuntime) -> Result<(), Fail> {
     run_from(&rt, rt.alloc(), Sample::Crypt(Crypt::new()), CRYPT)
+}
+
+#[test]
+fn sealing_by_its_table(rt: HostRuntime) -> Result<(), Fail> {
+    run_from(&rt, rt.alloc(), Sample::Crypt(Crypt::new()), SEALED)
 }
 
 #[test]

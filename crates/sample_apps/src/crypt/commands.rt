@@ -27,6 +27,8 @@ pub enum Command {
     Finish { bytes: Bytes, room: u32 },
     /// 4: the last bytes of the message, and the code that it may have.
     Compare { bytes: Bytes, mac: Bytes },
+    /// 5: the last bytes of a ciphertext, the tag that it may have, and room for what comes of them.
+    Open { bytes: Bytes, tag: Bytes, room: u32 },
 }
 
 #[tactic(auto, unfolding(crate::specs::CryptCommands::set_up_of))]
@@ -103,6 +105,25 @@ fn compare_of(params: &mut Params) -> Option<Command>
     }
 }
 
+#[tactic(auto, unfolding(crate::specs::CryptCommands::open_of))]
+fn open_of(params: &mut Params) -> Option<Command>
+    ensures { result ≡ rows.open_of params.old.p0 params.old.p1 params.old.p2 params.old.p3 }
+{
+    match *params {
+        Params {
+            p0: Param::MemIn(_),
+            p1: Param::MemIn(_),
+            p2: Param::MemOut(room),
+            p3: Param::Nothing,
+        } => {
+            let bytes = take_bytes(&mut params.p0)?;
+            let tag = take_bytes(&mut params.p1)?;
+            Some(Command::Open { bytes, tag, room })
+        }
+        _ => None,
+    }
+}
+
 /// The command of a number, or none: the number is unknown, or the parameters are of other kinds.
 #[tactic(auto, unfolding(crate::specs::CryptCommands::command_of))]
 pub fn command_of(number: u32, params: Params) -> Option<Command>
@@ -114,6 +135,7 @@ pub fn command_of(number: u32, params: Params) -> Option<Command>
         2 => update_of(&mut params),
         3 => finish_of(&mut params),
         4 => compare_of(&mut params),
+        5 => open_of(&mut params),
         _ => None,
     };
     drop(params);

@@ -28,6 +28,9 @@ impl Class {
             Class::Cipher { iv } => Ok(Class::Cipher {
                 iv: iv.copy(alloc)?,
             }),
+            Class::Ae { nonce } => Ok(Class::Ae {
+                nonce: nonce.copy(alloc)?,
+            }),
             Class::Mac => Ok(Class::Mac),
             Class::Digest => Ok(Class::Digest),
         }
@@ -67,6 +70,11 @@ impl Waiting {
             Waiting::Enciphering => Ok(Waiting::Enciphering),
             Waiting::Absorbing => Ok(Waiting::Absorbing),
             Waiting::Finishing => Ok(Waiting::Finishing),
+            Waiting::Sealing { size } => Ok(Waiting::Sealing { size: *size }),
+            Waiting::Opening => Ok(Waiting::Opening),
+            Waiting::Reopening { content } => Ok(Waiting::Reopening {
+                content: content.copy(alloc)?,
+            }),
             Waiting::Renewing { content } => Ok(Waiting::Renewing {
                 content: content.copy(alloc)?,
             }),

@@ -11,13 +11,18 @@ use std::alloc::Global;
 use std::mem;
 use tee_base::{Bytes, Code, NoMemory, keys};
 
+/// How many bits a tag has.
+const TAG_BITS: u32 = 128;
+
 /// The kind of an algorithm's keys; none for a digest and for what is no algorithm.
 #[tactic(auto, unfolding(crate::specs::CryptSetUp::key_kind))]
 fn key_kind(alg: u32) -> Option<u32>
     ensures { result ≡ rows.key_kind alg }
 {
     match alg {
-        keys::AES_ECB | keys::AES_CBC | keys::AES_CTR => Some(keys::KIND_AES),
+        keys::AES_ECB | keys::AES_CBC | keys::AES_CTR | keys::AES_GCM | keys::AES_CMAC => {
+            Some(keys::KIND_AES)
+        }
         keys::HMAC_SHA256 => Some(keys::KIND_HMAC_SHA256),
         keys::HMAC_SHA384 => Some(keys::KIND_HMAC_SHA384),
         keys::HMAC_SHA512 => Some(keys::KIND_HMAC_SHA512),
@@ -73,14 +78,18 @@ impl Class {
         mem::replace(self, Class::Digest)
     }
 
-    /// What an operation with a key of that kind computes.
-    fn of(kind: Option<u32>, iv: Bytes) -> Class
-        ensures { result ≡ rows.class_of kind iv }
+    /// What an operation of an algorithm with a key of that kind computes.
+    fn of(alg: u32, kind: Option<u32>, iv: Bytes) -> Class
+        ensures { result ≡ rows.class_of alg kind iv }
     {
-        match kind {
-            None => Class::Digest,
-            Some(keys::KIND_AES) => Class::Cipher { iv },
-            Some(_) => Class::Mac,
+        let Some(kind) = kind else {
+            return Class::Digest;
+        };
+        match alg {
+            keys::AES_GCM => Class::Ae { nonce: iv },
+            keys::AES_CMAC => Class::Mac,
+            _ if kind == keys::KIND_AES => Class::Cipher { iv },
+            _ => Class::Mac,
         }
     }
 
@@ -93,6 +102,11 @@ impl Class {
             Class::Cipher { iv } => Ok(Some(Ask::CipherInit {
                 op,
                 iv: iv.copy(alloc)?,
+            })),
+            Class::Ae { nonce } => Ok(Some(Ask::AeInit {
+                op,
+                nonce: nonce.copy(alloc)?,
+                tag_bits: TAG_BITS,
             })),
             Class::Mac => Ok(Some(Ask::MacInit { op })),
             Class::Digest => Ok(None),
@@ -161,7 +175,7 @@ impl Crypt {
             kind,
             max_bits: bits_of(&key),
         };
-        let class = Class::of(Some(kind), iv);
+        let class = Class::of(alg, Some(kind), iv);
         self.wait_for(Waiting::MakingKey { key, class }, ask)
     }
 

@@ -2,6 +2,7 @@
 //! ends it with GENERIC.
 
 ghost use Rattle.std.specs.Prelude.{◌≡◌, ◌∷◌, ◌++◌, IfOk, OnOk, OnErr};
+ghost use Rattle.std.specs.Int.{w32, to_le_bytes};
 ghost use Rattle.sample_apps.specs.StoreAnswers as rows;
 
 use crate::store::Store;
@@ -251,5 +252,33 @@ pub fn random_drawn(answer: Answer) -> Reaction<Store>
         Answer::Content(bytes) => succeed(at_p0(Out::Mem(bytes))),
         Answer::Short(size) => fall_short(at_p0(Out::Size(size))),
         other => refused(other),
+    }
+}
+
+/// The number of a login in four bytes, lowest first, and then the identifier.
+fn identity_bytes(alloc: Global, login: u32, id: &[u8; 16]) -> Result<Bytes, NoMemory>
+    ensures { IfOk result (λ bytes. bytes ≡ to_le_bytes w32 login ++ id.now) }
+{
+    let mut bytes = Vec::new(alloc);
+    bytes.extend_from_slice(login.to_le_bytes().as_slice())?;
+    bytes.extend_from_slice(id.as_slice())?;
+    Ok(Bytes::from_vec(bytes))
+}
+
+/// The command returns who the client is.
+fn tell_identity(alloc: Global, login: u32, id: &[u8; 16]) -> Result<Reaction<Store>, NoMemory>
+    ensures { IfOk result (λ reaction. reaction ≡ rows.identity_told login id.now) }
+{
+    let bytes = identity_bytes(alloc, login, id)?;
+    Ok(succeed(at_p0(Out::Mem(bytes))))
+}
+
+#[tactic(auto, unfolding(crate::specs::StoreAnswers::client_identified))]
+pub fn client_identified(alloc: Global, answer: Answer) -> Result<Reaction<Store>, NoMemory>
+    ensures { IfOk result (λ reaction. reaction ≡ rows.client_identified answer) }
+{
+    match answer {
+        Answer::Identity { login, id } => tell_identity(alloc, login, &id),
+        other => Ok(refused(other)),
     }
 }

@@ -336,6 +336,23 @@ fn draw_random(params: &Params) -> Reaction<Store>
     }
 }
 
+/// Who the client is.
+#[tactic(auto, unfolding(crate::specs::StoreCommands::identify_client))]
+fn identify_client(params: &Params) -> Reaction<Store>
+    ensures { result
+        ≡ rows.identify_client params.now.p0 params.now.p1 params.now.p2 params.now.p3 }
+{
+    match *params {
+        Params {
+            p0: Param::MemOut(_),
+            p1: Param::Nothing,
+            p2: Param::Nothing,
+            p3: Param::Nothing,
+        } => Reaction::ask_for(Store::Identifying, Ask::ClientIdentity),
+        _ => misfit(),
+    }
+}
+
 /// A command begins.
 #[tactic(auto, unfolding(crate::specs::StoreCommands::command))]
 pub fn command(number: u32, params: Params) -> Reaction<Store>
@@ -358,6 +375,7 @@ pub fn command(number: u32, params: Params) -> Reaction<Store>
         13 => poll_flag(&params),
         14 => watch_flag(&params),
         15 => draw_random(&params),
+        16 => identify_client(&params),
         _ => misfit(),
     };
     drop(params);

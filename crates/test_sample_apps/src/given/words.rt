@@ -87,6 +87,26 @@ fn object(text: &str) -> Result<Answer, Fail> {
     })
 }
 
+/// Who the client is: the number of its login, and sixteen characters.
+fn identity(text: &str) -> Result<Answer, Fail> {
+    let (login, word) = text.split_once(' ').ok_or("an identifier is missing")?;
+    let login = number(Some(login))?;
+    let mut id = [0; 16];
+    for (place, byte) in id.iter_mut().zip(word.as_bytes()) {
+        *place = *byte;
+    }
+    Ok(Answer::Identity { login, id })
+}
+
+/// A text, and its tag.
+fn sealed(alloc: Global, text: &str) -> Result<Answer, Fail> {
+    let (content, tag) = text.split_once(' ').ok_or("a tag is missing")?;
+    Ok(Answer::Sealed {
+        content: bytes(alloc, Some(content))?,
+        tag: bytes(alloc, Some(tag))?,
+    })
+}
+
 /// The answer that these words behind a name make, and none where it names no answer.
 fn answer_with(alloc: Global, name: &str, words: &str) -> Result<Option<Answer>, Fail> {
     Ok(Some(match name {
@@ -95,6 +115,8 @@ fn answer_with(alloc: Global, name: &str, words: &str) -> Result<Option<Answer>,
         "short" => Answer::Short(number(Some(words))?),
         "content" => Answer::Content(bytes(alloc, Some(words))?),
         "object" => object(words)?,
+        "identity" => identity(words)?,
+        "sealed" => sealed(alloc, words)?,
         "found" => Answer::Found {
             id: bytes(alloc, Some(words))?,
             kind: 94,
@@ -267,6 +289,7 @@ fn numbers_of(ask: &Ask) -> Option<Numbered> {
         Ask::Panic { code } => with_number("Panic", code.0),
         Ask::CancelFlag => without_number("CancelFlag"),
         Ask::CancelUnmask => without_number("CancelUnmask"),
+        Ask::ClientIdentity => without_number("ClientIdentity"),
         Ask::Random { count } => with_number("Random", *count),
         Ask::KeyNew { kind, max_bits } => with_numbers("KeyNew", *kind, *max_bits),
         Ask::OpNew {
@@ -293,6 +316,38 @@ fn put_bytes_into(
     write!(text, " {room}")
 }
 
+/// An ask of authenticated encryption.
+fn put_sealing(text: &mut String, ask: &Ask) -> Result<(), AllocError> {
+    match ask {
+        Ask::AeInit {
+            op,
+            nonce,
+            tag_bits,
+        } => put_bytes_into(text, "AeInit", *op, nonce, *tag_bits),
+        Ask::AeUpdate { op, bytes, room } => put_bytes_into(text, "AeUpdate", *op, bytes, *room),
+        Ask::AeSeal {
+            op,
+            bytes,
+            room,
+            tag_room,
+        } => {
+            put_bytes_into(text, "AeSeal", *op, bytes, *room)?;
+            write!(text, " {tag_room}")
+        }
+        Ask::AeOpen {
+            op,
+            bytes,
+            room,
+            tag,
+        } => {
+            put_bytes_into(text, "AeOpen", *op, bytes, *room)?;
+            write!(text, " ")?;
+            put_bytes(text, tag)
+        }
+        _ => write!(text, "an ask that no row has"),
+    }
+}
+
 /// An ask about a key or an operation that brings bytes.
 fn put_operation(text: &mut String, ask: &Ask) -> Result<(), AllocError> {
     match ask {
@@ -315,7 +370,7 @@ fn put_operation(text: &mut String, ask: &Ask) -> Result<(), AllocError> {
         Ask::DigestFinal { op, bytes, room } => {
             put_bytes_into(text, "DigestFinal", *op, bytes, *room)
         }
-        _ => write!(text, "an ask that no row has"),
+        other => put_sealing(text, other),
     }
 }
 
