@@ -317,6 +317,13 @@ fn codes(rt: HostRuntime) {
         (1, Do::MacInit(1), Told::Done),
         (1, Do::MacUpdate(1, SOME), Told::Done),
         (1, Do::Compare(1, REST, MAC_FRONT), INVALID),
+        (1, Do::New(keys::AES_CMAC, 4, 128), Told::Number(3)),
+        (1, Do::Key(3, AES, keys::USAGE_MAC, KEY), Told::Done),
+        (1, Do::MacInit(3), Told::Done),
+        (1, Do::MacUpdate(3, BLOCK), Told::Done),
+        (1, Do::MacFinal(3, &[], 16), Told::Bytes(CMAC_1)),
+        (1, Do::MacInit(3), Told::Done),
+        (1, Do::Compare(3, BLOCK, CMAC_1), Told::Done),
     ];
     check(&rt, rt.alloc(), ROWS);
 }
@@ -354,20 +361,6 @@ fn authenticated_encryption(rt: HostRuntime) {
         (1, Do::AeOpen(2, SEALED_2, 40, WRONG_TAG), INVALID),
         (1, Do::Info(2), Told::About(GCM, 1, 128, 128, false)),
         (1, Do::AeOpen(2, SEALED_2, 40, TAG), Told::Panicked),
-    ];
-    check(&rt, rt.alloc(), ROWS);
-}
-
-#[test]
-fn codes_by_a_cipher(rt: HostRuntime) {
-    const ROWS: &[Row] = &[
-        (1, Do::New(keys::AES_CMAC, 4, 128), Told::Number(1)),
-        (1, Do::Key(1, AES, keys::USAGE_MAC, KEY), Told::Done),
-        (1, Do::MacInit(1), Told::Done),
-        (1, Do::MacUpdate(1, BLOCK), Told::Done),
-        (1, Do::MacFinal(1, &[], 16), Told::Bytes(CMAC_1)),
-        (1, Do::MacInit(1), Told::Done),
-        (1, Do::Compare(1, BLOCK, CMAC_1), Told::Done),
     ];
     check(&rt, rt.alloc(), ROWS);
 }
