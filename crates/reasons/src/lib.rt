@@ -1,6 +1,7 @@
 //! Why a line of a text is no script line, in words for people.
 #![tactic(auto)]
 
+mod forms;
 mod grammar;
 mod line;
 mod wanted;

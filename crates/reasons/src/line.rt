@@ -1,7 +1,7 @@
 //! Why a line of a text is no script line, in words.
 
 use crate::grammar::{Misfit, misfit_of};
-use crate::wanted::{Wanted, write_names};
+use crate::wanted::write_wanted;
 use app_api::Host;
 use script::Dialect;
 use std::alloc::{AllocError, Global};
@@ -32,22 +32,29 @@ fn ended(line: &[u8]) -> Piece<'_> {
 /// Why a line is no script line.
 #[derive(Clone, Copy)]
 enum LineFault {
-    /// The last line ends with a carriage return alone.
-    LoneReturn,
-    /// The byte of this column isn't ASCII.
+    /// This is wrong with all of it.
+    Whole(&'static str),
+    /// The byte of this column, counted from 0, isn't ASCII.
     NotAscii(usize),
-    OnlySpaces,
-    /// A space stands before what would else be a comment.
-    SpaceBeforeComment,
-    /// The word of this place, counted from 0, has this control character in it.
-    Control { place: usize, byte: u8 },
+    /// The word of this place, counted from 0, has such a character in it.
+    Control { place: usize, what: &'static str },
     /// A word is missing, or can't stand at its place.
     Word(Misfit),
-    /// It is about the board, of which this caller takes no lines.
-    Board,
-    /// All memory that is filled up to this line is too much.
-    FilledTooMuch,
 }
+
+/// Of a last line that ends with a carriage return.
+const LONE_RETURN: &str = "the text ends with a carriage return; a line feed ends a line";
+
+const ONLY_SPACES: &str = "it has only spaces; an empty line has none";
+
+const SPACE_BEFORE_COMMENT: &str =
+    "a space stands before #; a comment has # as its first character";
+/// Of a line about the board, where the caller takes none.
+const ABOUT_BOARD: &str = "a race takes no line about the board";
+
+const FILLED_TOO_MUCH: &str = "all mf up to here fill more than 268435456 bytes";
+
+const _: () = prove!(limits::MAX_FILL_BYTES == 268_435_456);
 
 /// The line of this number, counted from 1.
 fn piece_of(text: &[u8], number: u64) -> Option<Piece<'_>> {
@@ -83,21 +90,36 @@ fn words_of(alloc: Global, line: &[u8]) -> Result<Vec<&[u8]>, AllocError> {
     Ok(words)
 }
 
-/// The first control character in the words.
-fn control_in(words: &[&[u8]]) -> Option<LineFault> {
-    for (place, word) in words.iter().enumerate() {
-        for byte in *word {
-            if byte.is_ascii_control() {
-                return Some(LineFault::Control { place, byte: *byte });
-            }
+/// What a control character is called.
+fn name_of(control: u8) -> &'static str {
+    match control {
+        b'\t' => "a tab",
+        b'\r' => "a carriage return",
+        _ => "a control character",
+    }
+}
+
+/// The first control character of a word.
+fn control_of(word: &[u8]) -> Option<u8> {
+    for byte in word {
+        if byte.is_ascii_control() {
+            return Some(*byte);
         }
     }
     None
 }
 
-/// Whether the line is about the board, and the caller takes no such lines.
-fn is_refused(words: &[&[u8]], dialect: Dialect) -> bool {
-    dialect == Dialect::WithoutBoard && matches!(words, [b"board", ..])
+/// The first control character in the words.
+fn control_in(words: &[&[u8]]) -> Option<LineFault> {
+    for (place, word) in words.iter().enumerate() {
+        if let Some(control) = control_of(word) {
+            return Some(LineFault::Control {
+                place,
+                what: name_of(control),
+            });
+        }
+    }
+    None
 }
 
 /// What is wrong with the words of a line.
@@ -107,17 +129,21 @@ fn fault_of_words<A>(
     words: &[&[u8]],
     dialect: Dialect,
 ) -> Result<LineFault, AllocError> {
-    match words {
-        [] => Ok(LineFault::OnlySpaces),
-        [[b'#', ..], ..] => Ok(LineFault::SpaceBeforeComment),
-        _ => match control_in(words) {
-            Some(fault) => Ok(fault),
-            None if is_refused(words, dialect) => Ok(LineFault::Board),
-            None => match misfit_of(alloc, hosts, words)? {
-                Some(found) => Ok(LineFault::Word(found)),
-                None => Ok(LineFault::FilledTooMuch),
-            },
-        },
+    let Some(first) = words.first() else {
+        return Ok(LineFault::Whole(ONLY_SPACES));
+    };
+    if first.starts_with(b"#") {
+        return Ok(LineFault::Whole(SPACE_BEFORE_COMMENT));
+    }
+    if let Some(fault) = control_in(words) {
+        return Ok(fault);
+    }
+    if *first == b"board".as_slice() && dialect == Dialect::WithoutBoard {
+        return Ok(LineFault::Whole(ABOUT_BOARD));
+    }
+    match misfit_of(alloc, hosts, words)? {
+        Some(found) => Ok(LineFault::Word(found)),
+        None => Ok(LineFault::Whole(FILLED_TOO_MUCH)),
     }
 }
 
@@ -129,7 +155,7 @@ fn fault_of<A>(
     dialect: Dialect,
 ) -> Result<LineFault, AllocError> {
     if !piece.is_ended && matches!(piece.line, [.., b'\r']) {
-        return Ok(LineFault::LoneReturn);
+        return Ok(LineFault::Whole(LONE_RETURN));
     }
     match piece.line.iter().position(|c| *c >= 128) {
         Some(column) => Ok(LineFault::NotAscii(column)),
@@ -140,40 +166,36 @@ fn fault_of<A>(
     }
 }
 
-/// Writes a word in quotes, its front alone where it is long.
+/// Writes a word between backticks, its front alone where it is long.
 fn write_word(text: &mut String, word: &[u8]) -> Result<(), AllocError> {
     let shown = &word[..word.len().min(SHOWN)];
-    text.push_str("\"")?;
-    write!(text, "{}", shown.escape_ascii())?;
-    text.push_str("\"")?;
+    write!(text, "`{}`", shown.escape_ascii())?;
     if word.len() > SHOWN {
         text.push_str("..")?;
     }
     Ok(())
 }
 
-/// Writes what may stand at the place of a word, and what does.
+/// Writes which word can't stand at its place, or is missing there, and what may.
 fn write_misfit<A>(
     text: &mut String,
     hosts: &[Host<A>],
     words: &[&[u8]],
     Misfit { place, wanted }: Misfit,
 ) -> Result<(), AllocError> {
+    write!(text, ", word {}", place.saturating_add(1))?;
     match words.get(place) {
         Some(word) => {
-            text.push_str(": ")?;
+            text.push_str(": found ")?;
             write_word(text, word)?;
         }
         None => text.push_str(" is missing")?,
     }
-    write!(text, ": {wanted}")?;
-    match wanted {
-        Wanted::Subject => write_names(text, hosts),
-        _ => Ok(()),
-    }
+    text.push_str(", expected ")?;
+    write_wanted(text, hosts, wanted)
 }
 
-/// Writes why a line is none, behind its number.
+/// Writes why a line is none, after its number.
 fn write_fault<A>(
     text: &mut String,
     alloc: Global,
@@ -181,35 +203,22 @@ fn write_fault<A>(
     line: &[u8],
     fault: LineFault,
 ) -> Result<(), AllocError> {
-    let most = limits::MAX_FILL_BYTES;
     match fault {
-        LineFault::LoneReturn => {
-            text.push_str(": a carriage return at the end of the text; a line feed ends a line")
+        LineFault::Whole(what) => {
+            text.push_str(": ")?;
+            text.push_str(what)
         }
         LineFault::NotAscii(column) => {
-            let column = column.saturating_add(1);
-            write!(text, ", byte {column}: not ASCII")
+            write!(text, ", byte {} is not ASCII", column.saturating_add(1))
         }
-        LineFault::OnlySpaces => text.push_str(": spaces alone; an empty line has none"),
-        LineFault::SpaceBeforeComment => {
-            text.push_str(": a space before #; a comment has # as its first character")
-        }
-        LineFault::Board => text.push_str(": a race takes no line about the board"),
-        LineFault::FilledTooMuch => {
-            write!(text, ": all mf up to here fill more than {most} bytes")
-        }
-        LineFault::Control { place, byte } => {
+        LineFault::Control { place, what } => {
             let place = place.saturating_add(1);
-            let what = match byte {
-                b'\t' => "a tab",
-                b'\r' => "a carriage return",
-                _ => "a control character",
-            };
-            write!(text, ", word {place}: {what}; only spaces part words")
+            write!(
+                text,
+                ", word {place} has {what} in it; only spaces part words"
+            )
         }
         LineFault::Word(found) => {
-            let place = found.place.saturating_add(1);
-            write!(text, ", word {place}")?;
             let words = words_of(alloc, line)?;
             write_misfit(text, hosts, words.as_slice(), found)
         }
