@@ -192,6 +192,7 @@ entry_leaves {A} serving m r (asked.Return code outs) =
 entry_leaves serving m r asked.CancelFlag = refl
 entry_leaves serving m r asked.CancelMask = refl
 entry_leaves serving m r asked.CancelUnmask = refl
+entry_leaves serving m r asked.ClientIdentity = refl
 entry_leaves serving m r ask = tt
 
 told_leaves : {A : Type 0} (m : Machine A) (s : CryptoState) (t : Told) → Leaves m.instances (outcome_by (with_crypto m s) t)

@@ -1,5 +1,5 @@
 -- An entry that asks, taken apart.
-use Rattle.std.specs.Prelude.{ℕ, ◌+◌, not, nat_le, ◌&&◌, Bool, false}
+use Rattle.std.specs.Prelude.{◌+◌, not, nat_le, ◌&&◌, Bool, false}
 use Rattle.tee_base.specs.declared.limits.TheConstants.{MAX_ASKS}
 use Rattle.app_api.specs.Behaviours.{Behaviour}
 use Rattle.app_api.specs.declared.ask.Answer.{Answer}

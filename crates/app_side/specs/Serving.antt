@@ -1,5 +1,5 @@
 -- How a turn goes over a keeper of a store.
-use Rattle.std.specs.Prelude.{ℕ, ◌≡◌, true, Bool, IfOk, List, OnErr, Option, None, Result, find, is_some}
+use Rattle.std.specs.Prelude.{◌≡◌, true, Bool, IfOk, List, OnErr, Option, None, Result, find, is_some}
 use Rattle.tee_base.specs.declared.bytes.NoMemory.{NoMemory}
 use Rattle.app_api.specs.Behaviours.{Behaviour}
 use Rattle.store_api.specs.Keeping.{Keeper, LeavesJust}

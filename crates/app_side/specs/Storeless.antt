@@ -1,5 +1,5 @@
 -- Turns that need no store.
-use Rattle.std.specs.Prelude.{ℕ, ◌≡◌, Bool, true, false, Result, Err, find}
+use Rattle.std.specs.Prelude.{◌≡◌, Bool, true, false, Result, Err, find}
 use Rattle.store_api.specs.declared.answer.StoreAnswer.{StoreAnswer}
 use Rattle.store_api.specs.declared.answer.StoreAnswer.TheVariants.{Lost as LostStore, NoMemory}
 use Rattle.store_api.specs.Foundations.{no_foundation}
