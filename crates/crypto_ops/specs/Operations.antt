@@ -14,7 +14,8 @@ use Rattle.ae_modes.specs.declared.answers.AeWay.{AeWay}
 use Rattle.ae_modes.specs.declared.answers.AeWay.TheVariants as ae_ways
 use Rattle.ae_modes.specs.declared.answers.AeAnswer.{AeAnswer}
 use Rattle.ae_modes.specs.declared.answers.AeAnswer.TheVariants.{WrongTag, NoNonce, Late, TooLong, ShortBuffer, BadTag}
-use Rattle.crypto_ops.specs.Algorithms.{algorithm_at, algorithm_number, mode_number, key_kind, greatest_fits, key_fits, usage_bit, is_cipher, is_ae, is_mac, is_digest, mode_of, way_of, hash_of, ae_way, code_len, code_of}
+use Rattle.crypto_ops.specs.Algorithms.{algorithm_at, algorithm_number, mode_number, key_kind, greatest_fits, key_fits, usage_bit}
+use Rattle.crypto_ops.specs.Algorithms.{is_cipher, is_ae, is_mac, is_digest, mode_of, way_of, hash_of, ae_way, code_len, code_of}
 use Rattle.crypto_ops.specs.declared.algorithm.Algorithm.{Algorithm}
 use Rattle.crypto_ops.specs.declared.answer.OpAnswer.{OpAnswer}
 use Rattle.crypto_ops.specs.declared.answer.OpAnswer.TheVariants.{NotSupported, Short, MacInvalid, Misuse, NoMemory}

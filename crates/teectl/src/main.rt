@@ -15,7 +15,7 @@ use crate::check::check_script;
 use crate::command::{Asked, asked_for, without_explain};
 use crate::kept::KeptSource;
 use crate::listing::host_lines;
-use crate::why::{Ended, with_file_reason, with_reason};
+use crate::why::{Ended, version_in, with_file_reason, with_reason, with_version};
 use board::Board;
 use boards::{FileBoard, FileBoardFailed};
 use sample_apps::sample_hosts;
@@ -119,10 +119,19 @@ fn run_over_files(
     image: &str,
     explains: bool,
 ) -> Ended {
+    let before = if explains {
+        version_in(rt, image)
+    } else {
+        None
+    };
     match FileBoard::open(rt, alloc, image) {
         Ok(board) => {
             let seed = board.random_seed();
-            run_over(rt, alloc, words, (board, seed), explains)
+            let ended = run_over(rt, alloc, words, (board, seed), explains);
+            match before {
+                Some(_) => with_version(alloc, ended, before, version_in(rt, image)),
+                None => ended,
+            }
         }
         Err(FileBoardFailed::Failed(failure)) if explains => {
             with_file_reason(rt, alloc, image, &failure)

@@ -29,4 +29,4 @@ exit statuses: 0 done, 64 faulty command line, 65 a line is no script line, 66 s
 docs/SCRIPT.md describes the script language and the printed lines.
 ";
 
-pub const VERSION: &str = "teectl 0.1.0\n";
+pub const VERSION: &str = "teectl 0.2.0\n";

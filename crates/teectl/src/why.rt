@@ -2,6 +2,9 @@
 
 mod files;
 mod refusals;
+mod versions;
+
+pub use versions::{version_in, with_version};
 
 use crate::why::files::{Found, file_reason, folder_of, path_of};
 use crate::why::refusals::refusal_reason;
@@ -29,6 +32,12 @@ impl Ended {
     }
 }
 
+/// What a log has room for.
+fn log_reason(alloc: Global) -> Result<String, AllocError> {
+    let (entries, bytes) = (limits::MAX_LOG_ENTRIES, limits::MAX_LOG_BYTES);
+    format!(in alloc; "a log has room for {entries} entries and for {bytes} bytes of parameters")
+}
+
 /// What is said of a status where no file is at fault. The text is what was read, as far as it is known, and of the grammar this was
 /// taken.
 fn words_for<A>(
@@ -53,6 +62,11 @@ fn words_for<A>(
             "standard input can't be read: it may be a folder, or closed",
         )?,
         Status::StoreRefused(why) => String::from_str(alloc, refusal_reason(why))?,
+        Status::LogFull(_) => log_reason(alloc)?,
+        Status::WriteFault => String::from_str(
+            alloc,
+            "standard output can't be written: the disk may be full, or the reader of a pipe may have ended",
+        )?,
         Status::BoardFault => String::from_str(
             alloc,
             "a read, a write or a sync of the image failed: the disk may be full or faulty",

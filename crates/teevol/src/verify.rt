@@ -1,33 +1,38 @@
 //! What a verification of all tags finds, in text and in JSON.
 
-use crate::ended::Ended;
+use crate::ended::{Ended, Told};
+use crate::json;
+use crate::names::name_of;
 use board::Board;
-use inspect::{Opened, Spot, spot_of};
+use inspect::{Spot, spot_of};
 use std::alloc::{AllocError, Global};
 use store_api::Mismatch;
-use tree_volume::VerifyAnswer;
+use tree_volume::{TreeVolume, VerifyAnswer};
 
 /// Writes a damaged place with both tags as text.
-fn write_text(
+fn write_damage(
     alloc: Global,
     text: &mut String,
     place: u64,
     tags: &Mismatch,
 ) -> Result<(), AllocError> {
-    write!(text, "damaged at place {place}")?;
     match spot_of(place) {
-        Spot::Node => text.push_str(", a node\n")?,
-        Spot::Leaf { region, leaf } => write!(text, ", leaf {leaf} of region {region}\n")?,
+        Spot::Node => write!(text, "damaged at place {place}, a node\n")?,
+        Spot::Leaf { region, leaf } => {
+            let name = name_of(region);
+            write!(
+                text,
+                "damaged at place {place}, leaf {leaf} of region {name}\n"
+            )?
+        }
     }
-    let (found, kept) = (
-        hex::encode(alloc, &tags.found)?,
-        hex::encode(alloc, &tags.kept)?,
-    );
+    let found = hex::encode(alloc, &tags.found)?;
+    let kept = hex::encode(alloc, &tags.kept)?;
     write!(text, "found {found}\nkept {kept}\n")
 }
 
 /// Writes a damaged place with both tags as an object of JSON.
-fn write_json(
+fn write_json_damage(
     alloc: Global,
     text: &mut String,
     place: u64,
@@ -35,40 +40,56 @@ fn write_json(
 ) -> Result<(), AllocError> {
     write!(text, "{{\"sound\":false,\"place\":{place},")?;
     if let Spot::Leaf { region, leaf } = spot_of(place) {
-        write!(text, "\"region\":{region},\"leaf\":{leaf},")?;
+        let name = name_of(region);
+        write!(
+            text,
+            "\"region\":{region},\"name\":\"{name}\",\"leaf\":{leaf},"
+        )?;
     }
-    let (found, kept) = (
-        hex::encode(alloc, &tags.found)?,
-        hex::encode(alloc, &tags.kept)?,
-    );
-    write!(text, "\"found\":\"{found}\",\"kept\":\"{kept}\"}}\n")
+    json::write_tags(alloc, text, tags)?;
+    text.push_str("}\n")
 }
 
-/// Computes all tags of an opened volume anew, and tells what is found.
-pub fn verify<B: Board + Drop>(
+/// Writes how many places were verified.
+fn write_sound(text: &mut String, places: u32, json: bool) -> Result<(), AllocError> {
+    if json {
+        write!(text, "{{\"sound\":true,\"places\":{places}}}\n")
+    } else {
+        write!(text, "sound, places {places}\n")
+    }
+}
+
+/// Writes what a verification found, and says whether all is sound.
+fn write_answer(
     alloc: Global,
-    opened: &mut Opened<B>,
+    text: &mut String,
+    answer: Result<u32, VerifyAnswer>,
     json: bool,
-) -> Result<Ended, Ended> {
-    let mut text = String::new(alloc);
-    let is_sound = match opened.volume.verify() {
-        Ok(places) if json => {
-            write!(text, "{{\"sound\":true,\"places\":{places}}}\n")?;
-            true
-        }
-        Ok(places) => {
-            write!(text, "sound, places {places}\n")?;
-            true
-        }
+) -> Result<bool, Ended> {
+    match answer {
+        Ok(places) => write_sound(text, places, json)?,
         Err(VerifyAnswer::Wrong { place, mismatch }) if json => {
-            write_json(alloc, &mut text, place, &mismatch)?;
-            false
+            write_json_damage(alloc, text, place, &mismatch)?
         }
         Err(VerifyAnswer::Wrong { place, mismatch }) => {
-            write_text(alloc, &mut text, place, &mismatch)?;
-            false
+            write_damage(alloc, text, place, &mismatch)?
         }
         Err(_) => return Err(Ended::BoardFault),
-    };
-    Ok(Ended::Told { text, is_sound })
+    }
+    Ok(answer.is_ok())
+}
+
+/// Computes all tags of a volume anew, and tells what is found.
+pub fn verify<B: Board + Drop>(
+    alloc: Global,
+    volume: &mut TreeVolume<B>,
+    json: bool,
+) -> Result<Told, Ended> {
+    let answer = volume.verify();
+    let mut text = String::new(alloc);
+    let is_sound = write_answer(alloc, &mut text, answer, json)?;
+    Ok(Told {
+        bytes: text.into_bytes(),
+        is_sound,
+    })
 }

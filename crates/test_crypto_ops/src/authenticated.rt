@@ -3,8 +3,6 @@
 
 use crate::calls::{Do, Kind, Row, Told, go_apart, new, run};
 use crate::vectors::{AES_KEY, PLAIN};
-use std::alloc::Global;
-use std::process::Abort;
 use tee_base::keys;
 
 const SEALING: Kind = (keys::AES_GCM, keys::MODE_ENCRYPT, 128);
@@ -14,7 +12,7 @@ const OPENING: Kind = (keys::AES_GCM, keys::MODE_DECRYPT, 128);
 const CODE: Kind = (keys::AES_CMAC, keys::MODE_MAC, 256);
 
 /// The key of the examples of GCM, and their nonces, associated data, texts, ciphertexts and tags. Text and ciphertext of
-/// case 4 are cut behind 20 bytes.
+/// case 4 are cut after 20 bytes.
 const KEY: &[u8] = &[
     0xfe, 0xff, 0xe9, 0x92, 0x86, 0x65, 0x73, 0x1c, 0x6d, 0x6a, 0x8f, 0x94, 0x67, 0x30, 0x83, 0x08,
 ];
@@ -136,116 +134,131 @@ const BEGUN: Row<'static> = (Do::AeInit(NONCE, 128), Told::Done);
 
 const WITH_AAD: Row<'static> = (Do::AeAad(AAD), Told::Done);
 
-#[test]
-fn messages_are_sealed(rt: HostRuntime) {
-    const ROWS: &[Row] = &[
-        (Do::AeInit(NONCE, 128), Told::Misuse),
-        KEYED,
-        (Do::AeAad(AAD), Told::Misuse),
-        (Do::AeUpdate(&[], 0), Told::Misuse),
-        (Do::AeSeal(&[], 0, 16), Told::Misuse),
-        (Do::CipherInit(&[]), Told::Misuse),
-        (Do::AeInit(&[], 100), Told::Misuse),
-        (Do::AeInit(NONCE, 100), Told::Other),
-        (Do::Info, Told::About(128, 128, false)),
-        BEGUN,
-        WITH_AAD,
-        (Do::AeUpdate(TEXT_FRONT, 19), Told::Short(20)),
-        (Do::AeUpdate(TEXT_FRONT, 524_289), Told::Misuse),
-        (Do::AeUpdate(TEXT_FRONT, 20), Told::Bytes(SEALED_FRONT)),
-        (Do::AeAad(&[]), Told::Misuse),
-        (Do::CipherUpdate(&[], 0), Told::Misuse),
-        (Do::AeOpen(&[], 0, TAG), Told::Misuse),
-        (Do::AeSeal(TEXT_REST, 40, 524_289), Told::Misuse),
-        (Do::AeSeal(TEXT_REST, 39, 15), Told::Short(40)),
-        (Do::AeSeal(TEXT_REST, 40, 15), Told::Short(16)),
-        (
-            Do::AeSeal(TEXT_REST, 40, 16),
-            Told::Sealed(SEALED_REST, TAG),
-        ),
-        (Do::Info, Told::About(128, 128, false)),
-        (Do::AeSeal(&[], 0, 16), Told::Misuse),
-        (Do::AeInit(SHORT_NONCE, 128), Told::Done),
-        WITH_AAD,
-        (Do::AeSeal(TEXT, 64, 64), Told::Sealed(SEALED_5, TAG_5)),
-    ];
-    run(&rt, rt.alloc(), SEALING, ROWS);
-}
+/// What is refused before a message and amid it, one that is sealed in two pieces, and one under a nonce of eight bytes.
+const SEALS: &[Row<'static>] = &[
+    (Do::AeInit(NONCE, 128), Told::Misuse),
+    KEYED,
+    (Do::AeAad(AAD), Told::Misuse),
+    (Do::AeUpdate(&[], 0), Told::Misuse),
+    (Do::AeSeal(&[], 0, 16), Told::Misuse),
+    (Do::CipherInit(&[]), Told::Misuse),
+    (Do::AeInit(&[], 100), Told::Misuse),
+    (Do::AeInit(NONCE, 100), Told::Other),
+    (Do::Info, Told::About(128, 128, false)),
+    BEGUN,
+    WITH_AAD,
+    (Do::AeUpdate(TEXT_FRONT, 19), Told::Short(20)),
+    (Do::AeUpdate(TEXT_FRONT, 524_289), Told::Misuse),
+    (Do::AeUpdate(TEXT_FRONT, 20), Told::Bytes(SEALED_FRONT)),
+    (Do::AeAad(&[]), Told::Misuse),
+    (Do::CipherUpdate(&[], 0), Told::Misuse),
+    (Do::AeOpen(&[], 0, TAG), Told::Misuse),
+    (Do::AeSeal(TEXT_REST, 40, 524_289), Told::Misuse),
+    (Do::AeSeal(TEXT_REST, 39, 15), Told::Short(40)),
+    (Do::AeSeal(TEXT_REST, 40, 15), Told::Short(16)),
+    (
+        Do::AeSeal(TEXT_REST, 40, 16),
+        Told::Sealed(SEALED_REST, TAG),
+    ),
+    (Do::Info, Told::About(128, 128, false)),
+    (Do::AeSeal(&[], 0, 16), Told::Misuse),
+    (Do::AeInit(SHORT_NONCE, 128), Told::Done),
+    WITH_AAD,
+    (Do::AeSeal(TEXT, 64, 64), Told::Sealed(SEALED_5, TAG_5)),
+];
+
+/// A message that is opened in two pieces, a wrong tag, one of too many bytes, and a shorter one.
+const OPENS: &[Row<'static>] = &[
+    KEYED,
+    BEGUN,
+    WITH_AAD,
+    (Do::AeUpdate(SEALED_FRONT, 20), Told::Bytes(TEXT_FRONT)),
+    (Do::AeSeal(SEALED_REST, 40, 16), Told::Misuse),
+    (Do::AeOpen(SEALED_REST, 39, WRONG_TAG), Told::Short(40)),
+    (Do::AeOpen(SEALED_REST, 40, TAG), Told::Bytes(TEXT_REST)),
+    (Do::Info, Told::About(128, 128, false)),
+    BEGUN,
+    WITH_AAD,
+    (Do::AeOpen(SEALED, 60, WRONG_TAG), Told::MacInvalid),
+    (Do::Info, Told::About(128, 128, false)),
+    (Do::AeOpen(SEALED, 60, TAG), Told::Misuse),
+    (Do::AeInit(NONCE, 96), Told::Done),
+    WITH_AAD,
+    (Do::AeOpen(SEALED, 60, TAG_13), Told::MacInvalid),
+    (Do::AeInit(NONCE, 96), Told::Done),
+    WITH_AAD,
+    (Do::AeOpen(SEALED, 60, TAG_12), Told::Bytes(TEXT)),
+];
+
+/// Codes by a cipher.
+const CODES: &[Row<'static>] = &[
+    (Do::MacInit, Told::Misuse),
+    CODE_KEYED,
+    (Do::MacUpdate(FRONT), Told::Misuse),
+    (Do::AeInit(NONCE, 128), Told::Misuse),
+    (Do::MacInit, Told::Done),
+    (Do::MacFinal(&[], 16), Told::Bytes(CODE_0)),
+    (Do::MacInit, Told::Done),
+    (Do::MacUpdate(FRONT), Told::Done),
+    (Do::MacFinal(&[], 15), Told::Short(16)),
+    (Do::MacFinal(&[], 16), Told::Bytes(CODE_16)),
+    (Do::MacUpdate(&[]), Told::Misuse),
+    (Do::MacInit, Told::Done),
+    (Do::Compare(PLAIN, CODE_64), Told::Done),
+    (Do::MacInit, Told::Done),
+    (Do::Compare(PLAIN, WRONG_CODE), Told::MacInvalid),
+    (Do::Info, Told::About(256, 256, false)),
+];
+
+/// Each of these on a new operation.
+const CALLS: &[(Kind, &[Row<'static>])] = &[(SEALING, SEALS), (OPENING, OPENS), (CODE, CODES)];
 
 #[test]
-fn messages_are_opened(rt: HostRuntime) {
-    const ROWS: &[Row] = &[
-        KEYED,
-        BEGUN,
-        WITH_AAD,
-        (Do::AeUpdate(SEALED_FRONT, 20), Told::Bytes(TEXT_FRONT)),
-        (Do::AeSeal(SEALED_REST, 40, 16), Told::Misuse),
-        (Do::AeOpen(SEALED_REST, 39, WRONG_TAG), Told::Short(40)),
-        (Do::AeOpen(SEALED_REST, 40, TAG), Told::Bytes(TEXT_REST)),
-        (Do::Info, Told::About(128, 128, false)),
-        BEGUN,
-        WITH_AAD,
-        (Do::AeOpen(SEALED, 60, WRONG_TAG), Told::MacInvalid),
-        (Do::Info, Told::About(128, 128, false)),
-        (Do::AeOpen(SEALED, 60, TAG), Told::Misuse),
-        (Do::AeInit(NONCE, 96), Told::Done),
-        WITH_AAD,
-        (Do::AeOpen(SEALED, 60, TAG_13), Told::MacInvalid),
-        (Do::AeInit(NONCE, 96), Told::Done),
-        WITH_AAD,
-        (Do::AeOpen(SEALED, 60, TAG_12), Told::Bytes(TEXT)),
-    ];
-    run(&rt, rt.alloc(), OPENING, ROWS);
+fn messages_and_codes(rt: HostRuntime) {
+    for (kind, rows) in CALLS {
+        run(&rt, rt.alloc(), *kind, rows);
+    }
 }
 
-#[test]
-fn codes_by_a_cipher(rt: HostRuntime) {
-    const ROWS: &[Row] = &[
-        (Do::MacInit, Told::Misuse),
-        CODE_KEYED,
-        (Do::MacUpdate(FRONT), Told::Misuse),
-        (Do::AeInit(NONCE, 128), Told::Misuse),
-        (Do::MacInit, Told::Done),
-        (Do::MacFinal(&[], 16), Told::Bytes(CODE_0)),
-        (Do::MacInit, Told::Done),
-        (Do::MacUpdate(FRONT), Told::Done),
-        (Do::MacFinal(&[], 15), Told::Short(16)),
-        (Do::MacFinal(&[], 16), Told::Bytes(CODE_16)),
-        (Do::MacUpdate(&[]), Told::Misuse),
-        (Do::MacInit, Told::Done),
-        (Do::Compare(PLAIN, CODE_64), Told::Done),
-        (Do::MacInit, Told::Done),
-        (Do::Compare(PLAIN, WRONG_CODE), Told::MacInvalid),
-        (Do::Info, Told::About(256, 256, false)),
-    ];
-    run(&rt, rt.alloc(), CODE, ROWS);
-}
+/// What begins a message before it is copied, and what ends it on the operation and on the copy.
+const SEAL_BEGUN: &[Row<'static>] = &[
+    KEYED,
+    BEGUN,
+    WITH_AAD,
+    (Do::AeUpdate(TEXT_FRONT, 64), Told::Bytes(SEALED_FRONT)),
+];
 
-/// Makes the calls of the first rows, and those of the others on the operation and on a copy of it.
-fn check_both(rt: &impl Abort, alloc: Global, kind: Kind, begun: &[Row<'_>], ended: &[Row<'_>]) {
-    let mut operation = new(rt, kind);
-    go_apart(rt, alloc, &mut operation, begun, kind, ended, ended);
-    drop(operation);
-}
+const SEAL_ENDED: &[Row<'static>] = &[(
+    Do::AeSeal(TEXT_REST, 64, 64),
+    Told::Sealed(SEALED_REST, TAG),
+)];
+
+const CODE_BEGUN: &[Row<'static>] = &[
+    CODE_KEYED,
+    (Do::MacInit, Told::Done),
+    (Do::MacUpdate(FRONT), Told::Done),
+];
+
+const CODE_ENDED: &[Row<'static>] = &[(Do::MacFinal(REST, 16), Told::Bytes(CODE_64))];
+
+/// The calls before the copy, those on the copy, and those on the operation.
+type Apart = (
+    Kind,
+    &'static [Row<'static>],
+    &'static [Row<'static>],
+    &'static [Row<'static>],
+);
+
+const COPIES: &[Apart] = &[
+    (SEALING, SEAL_BEGUN, SEAL_ENDED, SEAL_ENDED),
+    (CODE, CODE_BEGUN, CODE_ENDED, CODE_ENDED),
+];
 
 #[test]
 fn copies_amid_a_message_go_on_apart(rt: HostRuntime) {
-    const SEAL_BEGUN: &[Row] = &[
-        KEYED,
-        BEGUN,
-        WITH_AAD,
-        (Do::AeUpdate(TEXT_FRONT, 64), Told::Bytes(SEALED_FRONT)),
-    ];
-    const SEAL_ENDED: &[Row] = &[(
-        Do::AeSeal(TEXT_REST, 64, 64),
-        Told::Sealed(SEALED_REST, TAG),
-    )];
-    const CODE_BEGUN: &[Row] = &[
-        CODE_KEYED,
-        (Do::MacInit, Told::Done),
-        (Do::MacUpdate(FRONT), Told::Done),
-    ];
-    const CODE_ENDED: &[Row] = &[(Do::MacFinal(REST, 16), Told::Bytes(CODE_64))];
-    check_both(&rt, rt.alloc(), SEALING, SEAL_BEGUN, SEAL_ENDED);
-    check_both(&rt, rt.alloc(), CODE, CODE_BEGUN, CODE_ENDED);
+    for (kind, begun, copied, ended) in COPIES {
+        let mut operation = new(&rt, *kind);
+        go_apart(&rt, rt.alloc(), &mut operation, begun, *kind, copied, ended);
+        drop(operation);
+    }
 }

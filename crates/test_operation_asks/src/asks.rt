@@ -1,204 +1,10 @@
 //! Each ask with an Ok, with each refusal and with each misuse; published vectors in pieces.
 
-use crate::given::key_with;
-use app_api::{Answer, Ask};
-use operation_asks::{CryptoOutcome, Operations, Outcome};
+use crate::words::{Do, Row, Told, check, check_on};
+use operation_asks::Operations;
 use std::alloc::Global;
 use std::process::Abort;
-use tee_base::{Bytes, Code, keys};
-use transient_obj::{KeyLook, Secret};
-
-/// An ask in words that a table can hold.
-#[derive(Clone, Copy)]
-enum Do<'a> {
-    Random(u32),
-    New(u32, u32, u32),
-    Free(u32),
-    Info(u32),
-    Reset(u32),
-    SetKey(u32, u32),
-    /// The rest of an ask for a key: the object gives one of this kind, usage and secret.
-    Key(u32, u32, u32, &'a [u8]),
-    /// The same, where it gives none.
-    NoKey(u32),
-    /// The same, where its storage is gone.
-    Gone(u32),
-    Copy(u32, u32),
-    Init(u32, &'a [u8]),
-    Update(u32, &'a [u8], u32),
-    Final(u32, &'a [u8], u32),
-    MacInit(u32),
-    MacUpdate(u32, &'a [u8]),
-    MacFinal(u32, &'a [u8], u32),
-    Compare(u32, &'a [u8], &'a [u8]),
-    DigestUpdate(u32, &'a [u8]),
-    DigestFinal(u32, &'a [u8], u32),
-    /// An ask of another family.
-    Close(u32),
-}
-
-/// What comes of it.
-#[derive(Clone, Copy, PartialEq)]
-enum Told<'a> {
-    Done,
-    Number(u32),
-    Bytes(&'a [u8]),
-    Short(u32),
-    Refused(Code),
-    /// The size of its key, and whether it is active.
-    About(u32, u32, u32, u32, bool),
-    /// It wants the key of an object.
-    Wants(u32, u32),
-    Panicked,
-    Other,
-}
-
-/// The bytes in memory of their own.
-fn owned(rt: &impl Abort, alloc: Global, bytes: &[u8]) -> Bytes {
-    Bytes::from_slice(alloc, bytes).expect(rt, "bytes")
-}
-
-/// An ask with no bytes.
-fn without_bytes(what: Do<'_>) -> Ask {
-    match what {
-        Do::Random(count) => Ask::Random { count },
-        Do::New(alg, mode, max_bits) => Ask::OpNew {
-            alg,
-            mode,
-            max_bits,
-        },
-        Do::Free(op) => Ask::OpFree { op },
-        Do::Info(op) => Ask::OpInfo { op },
-        Do::Reset(op) => Ask::OpReset { op },
-        Do::SetKey(op, object) => Ask::OpSetKey { op, object },
-        Do::Copy(to, from) => Ask::OpCopy { to, from },
-        Do::MacInit(op) => Ask::MacInit { op },
-        _ => Ask::ObjClose { object: 0 },
-    }
-}
-
-/// An ask with bytes and room.
-fn with_room(op: u32, what: Do<'_>, bytes: Bytes, room: u32) -> Ask {
-    match what {
-        Do::Update(..) => Ask::CipherUpdate { op, bytes, room },
-        Do::Final(..) => Ask::CipherFinal { op, bytes, room },
-        Do::MacFinal(..) => Ask::MacFinal { op, bytes, room },
-        _ => Ask::DigestFinal { op, bytes, room },
-    }
-}
-
-/// Any ask.
-fn ask(rt: &impl Abort, alloc: Global, what: Do<'_>) -> Ask {
-    match what {
-        Do::Init(op, iv) => Ask::CipherInit {
-            op,
-            iv: owned(rt, alloc, iv),
-        },
-        Do::MacUpdate(op, bytes) => Ask::MacUpdate {
-            op,
-            bytes: owned(rt, alloc, bytes),
-        },
-        Do::DigestUpdate(op, bytes) => Ask::DigestUpdate {
-            op,
-            bytes: owned(rt, alloc, bytes),
-        },
-        Do::Compare(op, bytes, mac) => Ask::MacCompare {
-            op,
-            bytes: owned(rt, alloc, bytes),
-            mac: owned(rt, alloc, mac),
-        },
-        Do::Update(op, bytes, room)
-        | Do::Final(op, bytes, room)
-        | Do::MacFinal(op, bytes, room)
-        | Do::DigestFinal(op, bytes, room) => with_room(op, what, owned(rt, alloc, bytes), room),
-        _ => without_bytes(what),
-    }
-}
-
-/// An object gives this key.
-fn key_of(rt: &impl Abort, kind: u32, usage: u32, secret: &[u8]) -> KeyLook {
-    assert!(rt; secret.len() <= 128);
-    key_with(kind, usage, Secret::from_slice(secret))
-}
-
-/// The rest of an ask for a key.
-fn settled(crypto: &mut Operations, instance: u8, op: u32, given: KeyLook) -> CryptoOutcome {
-    CryptoOutcome::Settled(crypto.set_key(instance, op, given))
-}
-
-/// What comes of an ask, or of the rest of one.
-fn served(
-    rt: &impl Abort,
-    alloc: Global,
-    crypto: &mut Operations,
-    instance: u8,
-    what: Do<'_>,
-) -> CryptoOutcome {
-    let (op, given) = match what {
-        Do::Key(op, kind, usage, secret) => (op, key_of(rt, kind, usage, secret)),
-        Do::NoKey(op) => (op, KeyLook::NoKey),
-        Do::Gone(op) => (op, KeyLook::Refused(Code::STORAGE_NOT_AVAILABLE)),
-        _ => {
-            let asked = crypto.serve(alloc, instance, ask(rt, alloc, what));
-            return asked.expect(rt, "an outcome");
-        }
-    };
-    settled(crypto, instance, op, given)
-}
-
-/// The same in words that a table can hold.
-fn shown(asked: &CryptoOutcome) -> Told<'_> {
-    match asked {
-        CryptoOutcome::Settled(Outcome::Answered(Answer::Done)) => Told::Done,
-        CryptoOutcome::Settled(Outcome::Answered(Answer::Number(number))) => Told::Number(*number),
-        CryptoOutcome::Settled(Outcome::Answered(Answer::Content(bytes))) => Told::Bytes(
-            bytes.as_slice(),
-        ),
-        CryptoOutcome::Settled(Outcome::Answered(Answer::Short(needed))) => Told::Short(*needed),
-        CryptoOutcome::Settled(Outcome::Answered(Answer::Refused(code))) => Told::Refused(*code),
-        CryptoOutcome::Settled(
-            Outcome::Answered(
-                Answer::About {
-                    alg,
-                    mode,
-                    max_bits,
-                    key_bits,
-                    active,
-                },
-            ),
-        ) => Told::About(*alg, *mode, *max_bits, *key_bits, *active),
-        CryptoOutcome::Settled(Outcome::Panicked) => Told::Panicked,
-        CryptoOutcome::WantsKey { op, object } => Told::Wants(*op, *object),
-        _ => Told::Other,
-    }
-}
-
-/// An instance, its ask, and what comes of it.
-type Row<'a> = (u8, Do<'a>, Told<'a>);
-
-/// Whether the ask of a row comes to what the row says.
-fn is_met(rt: &impl Abort, alloc: Global, crypto: &mut Operations, row: &Row<'_>) -> bool {
-    let (instance, what, wanted) = *row;
-    let asked = served(rt, alloc, crypto, instance, what);
-    let holds = shown(&asked) == wanted;
-    drop(asked);
-    holds
-}
-
-/// Checks it of each row, in order.
-fn check_on(rt: &impl Abort, alloc: Global, crypto: &mut Operations, rows: &[Row<'_>]) {
-    for (number, row) in rows.iter().enumerate() {
-        let holds = is_met(rt, alloc, crypto, row);
-        assert!(rt; holds, "row {number}");
-    }
-}
-
-/// Checks it of each row, in order, over no operations.
-fn check(rt: &impl Abort, alloc: Global, rows: &[Row<'_>]) {
-    let mut crypto = Operations::new(alloc, [0; 32], 0, 0);
-    check_on(rt, alloc, &mut crypto, rows);
-    drop(crypto);
-}
+use tee_base::{Code, keys};
 
 const UNSUPPORTED: Told<'static> = Told::Refused(Code::NOT_SUPPORTED);
 
@@ -261,6 +67,60 @@ const MAC_FRONT: &[u8] = &[0x82, 0x55, 0x8a, 0x38];
 const ABC: &[u8] = &[
     0xba, 0x78, 0x16, 0xbf, 0x8f, 0x01, 0xcf, 0xea, 0x41, 0x41, 0x40, 0xde, 0x5d, 0xae, 0x22, 0x23,
     0xb0, 0x03, 0x61, 0xa3, 0x96, 0x17, 0x7a, 0x9c, 0xb4, 0x10, 0xff, 0x61, 0xf2, 0x00, 0x15, 0xad,
+];
+
+/// GCM's example with associated data (McGrew and Viega, appendix B, case 4; SP 800-38D), cut after 20 bytes, and its tag
+/// with one wrong bit.
+const GCM_KEY: &[u8] = &[
+    0xfe, 0xff, 0xe9, 0x92, 0x86, 0x65, 0x73, 0x1c, 0x6d, 0x6a, 0x8f, 0x94, 0x67, 0x30, 0x83, 0x08,
+];
+
+const NONCE: &[u8] = &[
+    0xca, 0xfe, 0xba, 0xbe, 0xfa, 0xce, 0xdb, 0xad, 0xde, 0xca, 0xf8, 0x88,
+];
+
+const AAD: &[u8] = &[
+    0xfe, 0xed, 0xfa, 0xce, 0xde, 0xad, 0xbe, 0xef, 0xfe, 0xed, 0xfa, 0xce, 0xde, 0xad, 0xbe, 0xef,
+    0xab, 0xad, 0xda, 0xd2,
+];
+
+const TEXT_1: &[u8] = &[
+    0xd9, 0x31, 0x32, 0x25, 0xf8, 0x84, 0x06, 0xe5, 0xa5, 0x59, 0x09, 0xc5, 0xaf, 0xf5, 0x26, 0x9a,
+    0x86, 0xa7, 0xa9, 0x53,
+];
+
+const TEXT_2: &[u8] = &[
+    0x15, 0x34, 0xf7, 0xda, 0x2e, 0x4c, 0x30, 0x3d, 0x8a, 0x31, 0x8a, 0x72, 0x1c, 0x3c, 0x0c, 0x95,
+    0x95, 0x68, 0x09, 0x53, 0x2f, 0xcf, 0x0e, 0x24, 0x49, 0xa6, 0xb5, 0x25, 0xb1, 0x6a, 0xed, 0xf5,
+    0xaa, 0x0d, 0xe6, 0x57, 0xba, 0x63, 0x7b, 0x39,
+];
+
+const SEALED_1: &[u8] = &[
+    0x42, 0x83, 0x1e, 0xc2, 0x21, 0x77, 0x74, 0x24, 0x4b, 0x72, 0x21, 0xb7, 0x84, 0xd0, 0xd4, 0x9c,
+    0xe3, 0xaa, 0x21, 0x2f,
+];
+
+const SEALED_2: &[u8] = &[
+    0x2c, 0x02, 0xa4, 0xe0, 0x35, 0xc1, 0x7e, 0x23, 0x29, 0xac, 0xa1, 0x2e, 0x21, 0xd5, 0x14, 0xb2,
+    0x54, 0x66, 0x93, 0x1c, 0x7d, 0x8f, 0x6a, 0x5a, 0xac, 0x84, 0xaa, 0x05, 0x1b, 0xa3, 0x0b, 0x39,
+    0x6a, 0x0a, 0xac, 0x97, 0x3d, 0x58, 0xe0, 0x91,
+];
+
+const TAG: &[u8] = &[
+    0x5b, 0xc9, 0x4f, 0xbc, 0x32, 0x21, 0xa5, 0xdb, 0x94, 0xfa, 0xe9, 0x5a, 0xe7, 0x12, 0x1a, 0x47,
+];
+
+const WRONG_TAG: &[u8] = &[
+    0x5a, 0xc9, 0x4f, 0xbc, 0x32, 0x21, 0xa5, 0xdb, 0x94, 0xfa, 0xe9, 0x5a, 0xe7, 0x12, 0x1a, 0x47,
+];
+
+/// The code of CMAC of the first block (SP 800-38B, appendix D).
+const CMAC_1: &[u8] = &[
+    0x07, 0x0a, 0x16, 0xb4, 0x6b, 0x4d, 0x41, 0x44, 0xf7, 0x9b, 0xdd, 0x9d, 0xd0, 0x4a, 0x28, 0x7c,
+];
+
+const BLOCK: &[u8] = &[
+    0x6b, 0xc1, 0xbe, 0xe2, 0x2e, 0x40, 0x9f, 0x96, 0xe9, 0x3d, 0x7e, 0x11, 0x73, 0x93, 0x17, 0x2a,
 ];
 
 const CBC: u32 = keys::AES_CBC;
@@ -457,6 +317,50 @@ fn codes(rt: HostRuntime) {
         (1, Do::MacInit(1), Told::Done),
         (1, Do::MacUpdate(1, SOME), Told::Done),
         (1, Do::Compare(1, REST, MAC_FRONT), INVALID),
+        (1, Do::New(keys::AES_CMAC, 4, 128), Told::Number(3)),
+        (1, Do::Key(3, AES, keys::USAGE_MAC, KEY), Told::Done),
+        (1, Do::MacInit(3), Told::Done),
+        (1, Do::MacUpdate(3, BLOCK), Told::Done),
+        (1, Do::MacFinal(3, &[], 16), Told::Bytes(CMAC_1)),
+        (1, Do::MacInit(3), Told::Done),
+        (1, Do::Compare(3, BLOCK, CMAC_1), Told::Done),
+    ];
+    check(&rt, rt.alloc(), ROWS);
+}
+
+#[test]
+fn authenticated_encryption(rt: HostRuntime) {
+    const INVALID: Told<'static> = Told::Refused(Code::MAC_INVALID);
+    const GCM: u32 = keys::AES_GCM;
+    const ROWS: &[Row] = &[
+        (1, Do::New(GCM, 0, 128), Told::Number(1)),
+        (1, Do::New(GCM, 1, 128), Told::Number(2)),
+        (1, Do::AeInit(1, NONCE, 128), Told::Panicked),
+        (1, Do::Key(1, AES, ALL, GCM_KEY), Told::Done),
+        (1, Do::Key(2, AES, ALL, GCM_KEY), Told::Done),
+        (1, Do::AeInit(1, NONCE, 100), UNSUPPORTED),
+        (1, Do::AeInit(1, NONCE, 128), Told::Done),
+        (1, Do::AeAad(1, AAD), Told::Done),
+        (1, Do::AeUpdate(1, TEXT_1, 20), Told::Bytes(SEALED_1)),
+        (1, Do::AeAad(1, AAD), Told::Panicked),
+        (1, Do::AeSeal(1, TEXT_2, 40, 15), Told::Short(16)),
+        (
+            1,
+            Do::AeSeal(1, TEXT_2, 40, 16),
+            Told::Sealed(SEALED_2, TAG),
+        ),
+        (1, Do::AeInit(2, NONCE, 128), Told::Done),
+        (1, Do::AeAad(2, AAD), Told::Done),
+        (1, Do::AeUpdate(2, SEALED_1, 19), Told::Short(20)),
+        (1, Do::AeUpdate(2, SEALED_1, 20), Told::Bytes(TEXT_1)),
+        (1, Do::AeSeal(2, SEALED_2, 40, 16), Told::Panicked),
+        (1, Do::AeOpen(2, SEALED_2, 40, TAG), Told::Bytes(TEXT_2)),
+        (1, Do::AeInit(2, NONCE, 128), Told::Done),
+        (1, Do::AeAad(2, AAD), Told::Done),
+        (1, Do::AeUpdate(2, SEALED_1, 20), Told::Bytes(TEXT_1)),
+        (1, Do::AeOpen(2, SEALED_2, 40, WRONG_TAG), INVALID),
+        (1, Do::Info(2), Told::About(GCM, 1, 128, 128, false)),
+        (1, Do::AeOpen(2, SEALED_2, 40, TAG), Told::Panicked),
     ];
     check(&rt, rt.alloc(), ROWS);
 }

@@ -5,3 +5,5 @@
 mod asks;
 #[cfg(test)]
 mod given;
+#[cfg(test)]
+mod words;

@@ -59,8 +59,10 @@ fn write_fault(
 ) -> Result<(), AllocError> {
     match failure.fault {
         FileFault::Missing => {
-            write!(text, "not there; make it with: head -c 64 /dev/urandom > ")?;
-            text.push_str(path)
+            write!(
+                text,
+                "not there; make it with: (umask 077; head -c 64 /dev/urandom > {path})"
+            )
         }
         FileFault::NoKeys | FileFault::WrongLength => write_length(text, failure.file, bytes),
         FileFault::InUse => text.push_str("another process has this board"),

@@ -11,7 +11,9 @@ pub fn refusal_reason(why: &OpenAnswer) -> &'static str {
         }
         OpenAnswer::BadHeader { .. } => "the key file may be another one, or the image is damaged",
         OpenAnswer::UnknownVersion(_) => "the image is of a version that this program doesn't know",
-        OpenAnswer::Rollback { .. } => "the image is older than its counter",
+        OpenAnswer::Rollback { .. } => {
+            "the image is older than its counter, or its newest gate is damaged: put back the image of the last run; tee-salvage reads what this one holds"
+        }
         OpenAnswer::Ahead { .. } => "the counter's file may be missing or old",
         OpenAnswer::OldMismatch(_) =>
             "the image is of version 1 and damaged, so it was left as it is",
