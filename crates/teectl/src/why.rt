@@ -4,8 +4,6 @@ mod files;
 mod refusals;
 mod versions;
 
-pub use versions::{version_in, with_version};
-
 use crate::why::files::{Found, file_reason, folder_of, path_of};
 use crate::why::refusals::refusal_reason;
 use app_api::Host;
@@ -17,6 +15,7 @@ use std::fs;
 use std::rt::Files;
 use tee_base::limits;
 use tee_top::Status;
+pub use versions::{version_in, with_version};
 
 /// How a run ended, and why, where that is asked for and there is more to say than the status does.
 #[derive(Drop)]

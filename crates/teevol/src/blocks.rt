@@ -122,11 +122,7 @@ fn is_zero(byte: &u8) -> bool {
 }
 
 /// Writes all blocks that aren't zeros.
-fn write_all_blocks<B: Board>(
-    text: &mut String,
-    board: &mut B,
-    json: bool,
-) -> Result<(), Ended> {
+fn write_all_blocks<B: Board>(text: &mut String, board: &mut B, json: bool) -> Result<(), Ended> {
     let mut is_first = true;
     let mut bytes = [0; 1024];
     for block in 0..board.blocks() {

@@ -157,11 +157,7 @@ impl Telling {
         } else if self.empty.is_empty() {
             Ok(())
         } else {
-            write!(
-                &mut self.text,
-                "without objects:{}\n",
-                self.empty.as_str()
-            )
+            write!(&mut self.text, "without objects:{}\n", self.empty.as_str())
         }
     }
 }

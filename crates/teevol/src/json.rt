@@ -12,9 +12,7 @@ pub fn write_facts(text: &mut String, facts: &Facts) -> Result<(), AllocError> {
     write!(
         text,
         "{{\"version\":{},\"sequence\":{},\"counter\":{},\"behind\":{behind},\"slot\":{slot},\"regions\":[",
-        facts.version,
-        facts.sequence,
-        facts.counter
+        facts.version, facts.sequence, facts.counter
     )
 }
 
@@ -39,11 +37,7 @@ fn write_object(
 }
 
 /// Writes the objects of a region.
-fn write_objects(
-    alloc: Global,
-    text: &mut String,
-    objects: &[Listed],
-) -> Result<(), AllocError> {
+fn write_objects(alloc: Global, text: &mut String, objects: &[Listed]) -> Result<(), AllocError> {
     write!(text, "\"leaves\":{},\"objects\":[", all_leaves(objects))?;
     for (place, object) in objects.iter().enumerate() {
         write_object(alloc, text, comma(place == 0), object)?;

@@ -52,11 +52,7 @@ fn look_into<B: Board + Drop>(
 }
 
 /// Opens the volume of a board, and does what is asked of it.
-fn open_and_look<B: Board + Drop>(
-    alloc: Global,
-    board: B,
-    look: Look<'_>,
-) -> Result<Told, Ended> {
+fn open_and_look<B: Board + Drop>(alloc: Global, board: B, look: Look<'_>) -> Result<Told, Ended> {
     let mut opened = open_board(alloc, board)?;
     let told = look_into(alloc, &mut opened, look);
     drop(opened);

@@ -4,8 +4,8 @@ use tee_base::limits::MAX_HOSTS;
 
 /// What each region is called: by the host that has it, or by its number. These are the hosts that `teectl` hands in.
 const NAMES: [&str; MAX_HOSTS] = [
-    "vault", "twin", "keep", "tally", "cipher", "rogue", "6", "7", "8", "9", "10", "11", "12", "13",
-    "14", "15",
+    "vault", "twin", "keep", "tally", "cipher", "rogue", "6", "7", "8", "9", "10", "11", "12",
+    "13", "14", "15",
 ];
 
 /// What a region is called.

@@ -43,7 +43,9 @@ pub fn with_version(alloc: Global, ended: Ended, before: Option<u32>, now: Optio
     match (ended.status, before, now) {
         (Status::Done, Some(before), Some(now)) if before < now => Ended {
             status: Status::Done,
-            why: format!(in alloc; "the image was of version {before}, and is of version {now} from now on").ok(),
+            why: format!(in alloc;
+                "the image was of version {before}, and is of version {now} from now on"
+            ).ok(),
         },
         _ => ended,
     }
