@@ -88,7 +88,11 @@ fn returned(alloc: Global) -> Result<Reply, NoMemory> {
 /// A client opens a session, another invokes, and each makes a turn.
 fn calls(alloc: Global) -> Result<Vec<Row>, NoMemory> {
     let mut rows = Vec::new(alloc);
-    rows.push(quiet(0, open(1, Login::User(1_000)), b"keep log 1 c0 call 1 open 1 user:1000\n"))?;
+    rows.push(quiet(
+        0,
+        open(1, Login::User(1_000)),
+        b"keep log 1 c0 call 1 open 1 user:1000\n",
+    ))?;
     rows.push(quiet(
         7,
         invoke(alloc)?,
