@@ -1,0 +1,16 @@
+//! The RV32I base instruction set (RISC-V Instruction Set Manual, volume I, chapter 2): a machine with 32 registers and one flat memory.
+#![tactic(auto)]
+
+mod decoding;
+mod fields;
+pub mod instruction;
+pub mod machine;
+pub mod memory;
+mod operate;
+pub mod register;
+
+pub use decoding::decode;
+pub use instruction::{Comparison, Instruction, Operation, Size};
+pub use machine::{Machine, Stop};
+pub use memory::{BASE, Memory};
+pub use register::Register;
