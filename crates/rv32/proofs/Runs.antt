@@ -1,6 +1,6 @@
 -- A run, one instruction at a time.
 use Rattle.std.proofs.Common.{◌≡◌, ℕ, suc, ◌+◌, ◌-◌, ◌<◌, ◌≤◌, Option, None, Some, refl, arith}
-use Rattle.rv32.specs.Machine.{run, step, goes_on, RunEnd}
+use Rattle.rv32.specs.Machine.{run, step}
 use Rattle.rv32.specs.declared.machine.Machine.{Machine}
 use Rattle.rv32.specs.declared.machine.Stop.{Stop}
 use Rattle.rv32.specs.declared.machine.Stop.TheVariants.{Budget}

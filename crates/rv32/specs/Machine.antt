@@ -1,5 +1,5 @@
 -- The machine: what one instruction does, and a run of many (RISC-V Unprivileged ISA, chapter 2).
-use Rattle.std.specs.Prelude.{ℕ, zero, suc, ◌+◌, ◌*◌, ◌/◌, ◌%◌, ◌^◌, ◌==◌, Bool, true, false, List, Option, None, Some, slice_index, slice_set, if◌then◌else◌}
+use Rattle.std.specs.Prelude.{◌≡◌, ℕ, zero, suc, ◌+◌, ◌*◌, ◌/◌, ◌%◌, ◌^◌, ◌==◌, Bool, true, false, List, Option, None, Some, slice_index, slice_set, if◌then◌else◌}
 use Rattle.rv32.specs.Decode.{decode}
 use Rattle.rv32.specs.Operate.{operate as combination, compares, extended_by}
 use Rattle.rv32.specs.Memory.{byte, half, word, holds, with_byte, with_half, with_word}
@@ -11,7 +11,7 @@ use Rattle.rv32.specs.declared.instruction.Instruction.TheVariants.{LoadUpper, A
 use Rattle.rv32.specs.declared.instruction.Instruction.TheVariants as instructions
 use Rattle.rv32.specs.declared.machine.Machine.{Machine}
 use Rattle.rv32.specs.declared.machine.Stop.{Stop}
-use Rattle.rv32.specs.declared.machine.Stop.TheVariants.{Call, Break, Illegal, NoInstruction, Misaligned, NoMemory, Budget}
+use Rattle.rv32.specs.declared.machine.Stop.TheVariants.{Call, Break, Illegal, NoInstruction, Misaligned, Outside, Budget}
 
 -- the machine after one instruction, and why it stops if it does
 pub record Outcome : Type 0 where
@@ -78,17 +78,17 @@ value_at memory Word a = word memory a
 -- what was found goes into a register, extended by zeros
 abbrev pub after_unsigned_load : Machine → ℕ → Option ℕ → Outcome
 after_unsigned_load m to (Some v) = after_put m to v
-after_unsigned_load m to None = stop_for m NoMemory
+after_unsigned_load m to None = stop_for m Outside
 
 -- what was found goes into a register, extended by its sign
 abbrev pub after_load : Machine → Size → ℕ → Option ℕ → Outcome
 after_load m size to (Some v) = after_put m to (extended_by size v)
-after_load m size to None = stop_for m NoMemory
+after_load m size to None = stop_for m Outside
 
 -- it goes on where there was memory for what is stored
 abbrev pub after_store : Machine → Bool → Outcome
 after_store m true = go_on m
-after_store m false = stop_for m NoMemory
+after_store m false = stop_for m Outside
 
 -- SB, SH, SW (section 2.6): the lowest bits of a value go to an address
 unfoldable pub store : Size → Machine → ℕ → ℕ → Outcome
@@ -152,3 +152,9 @@ goes_on go m (Some s) = record { machine = m; stop = s }
 unfoldable pub run : ℕ → Machine → RunEnd
 run zero m = record { machine = m; stop = Budget }
 run (suc n) m = goes_on (run n) (step m).machine (step m).stop
+
+-- the machine is as it was where it stops, unless it stops for a call
+abbrev pub LeavesIt : Option Stop → Machine → Machine → Type 0
+LeavesIt None before after = Unit {0}
+LeavesIt (Some Call) before after = Unit {0}
+LeavesIt (Some stop) before after = after ≡ before

@@ -1,6 +1,6 @@
 -- The memory: bytes that begin at one address, on the circle of 2 ^ 32 addresses (section 1.4). A number of several bytes has its
 -- lowest byte first, and may lie at any address: a load or store that is misaligned is served (section 2.6).
-use Rattle.std.specs.Prelude.{ℕ, ◌+◌, ◌-◌, ◌*◌, ◌/◌, ◌%◌, ◌^◌, Bool, nat_le, List, length, Option, None, Some, slice_index, slice_set, take, drop, ◌++◌, if◌then◌else◌}
+use Rattle.std.specs.Prelude.{ℕ, ◌+◌, ◌-◌, ◌*◌, ◌/◌, ◌%◌, ◌^◌, Bool, nat_le, List, length, Option, None, Some, slice_index, slice_set, take, drop, replicate, ◌++◌, if◌then◌else◌}
 use Rattle.rv32.specs.declared.memory.TheConstants.{BASE}
 
 -- how far an address lies after the first byte, on the circle
@@ -54,3 +54,8 @@ slice_at m a size = take size (drop (index_of a) m)
 abbrev pub with_bytes : List ℕ → ℕ → List ℕ → List ℕ
 with_bytes m a bytes =
     if holds m a (length bytes) then take (index_of a) m ++ bytes ++ drop (index_of a + length bytes) m else m
+
+-- the memory with so many zeros from an address on, where they lie there
+abbrev pub with_zeros : List ℕ → ℕ → ℕ → List ℕ
+with_zeros m a size =
+    if holds m a size then take (index_of a) m ++ replicate size 0 ++ drop (index_of a + size) m else m

@@ -4,6 +4,7 @@
 mod decoding;
 mod fields;
 pub mod instruction;
+mod laws;
 pub mod machine;
 pub mod memory;
 mod operate;
@@ -11,6 +12,7 @@ pub mod register;
 
 pub use decoding::decode;
 pub use instruction::{Comparison, Instruction, Operation, Size};
+pub use laws::a_stop_changes_nothing;
 pub use machine::{Machine, Stop};
 pub use memory::{BASE, Memory};
 pub use register::Register;

@@ -20,7 +20,7 @@ pub enum Stop {
     /// A jump, or a branch that is taken, leads to an address that is no multiple of 4.
     Misaligned,
     /// Memory is read or written where there is none.
-    NoMemory,
+    Outside,
     /// So many instructions were made as were allowed. The machine can go on.
     Budget,
 }
@@ -134,7 +134,7 @@ impl Machine {
     {
         match found {
             Some(value) => self.put(to, value),
-            None => Some(Stop::NoMemory),
+            None => Some(Stop::Outside),
         }
     }
 
@@ -146,7 +146,7 @@ impl Machine {
     {
         match found {
             Some(value) => self.put(to, extended(size, value)),
-            None => Some(Stop::NoMemory),
+            None => Some(Stop::Outside),
         }
     }
 
@@ -171,7 +171,7 @@ impl Machine {
         if found {
             self.go_on()
         } else {
-            Some(Stop::NoMemory)
+            Some(Stop::Outside)
         }
     }
 

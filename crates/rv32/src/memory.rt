@@ -91,6 +91,21 @@ impl Memory {
         }
     }
 
+    /// Writes so many zeros from an address on, and says whether they lie here. Else nothing changes.
+    pub fn clear(&mut self, address: u32, size: u32) -> bool
+        ensures found { result ≡ isa.holds self.old address size }
+        ensures memory { self.new ≡ isa.with_zeros self.old address size }
+    {
+        let index = index_of(address);
+        let end = index + size as usize;
+        if end <= self.items.len() {
+            self.items[index..end].fill(0);
+            true
+        } else {
+            false
+        }
+    }
+
     #[inline(always)]
     pub fn byte(&self, address: u32) -> Option<u32>
         ensures { result ≡ isa.byte self.now address }
