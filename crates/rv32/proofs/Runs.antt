@@ -2,8 +2,8 @@
 use Rattle.std.proofs.Common.{◌≡◌, ℕ, suc, ◌+◌, ◌-◌, ◌<◌, ◌≤◌, Option, None, Some, refl, arith}
 use Rattle.rv32.specs.Machine.{run, step}
 use Rattle.rv32.specs.declared.machine.Machine.{Machine}
-use Rattle.rv32.specs.declared.machine.Stop.{Stop}
-use Rattle.rv32.specs.declared.machine.Stop.TheVariants.{Budget}
+use Rattle.rv32.specs.declared.machine.Halt.{Halt}
+use Rattle.rv32.specs.declared.machine.Halt.TheVariants.{Budget}
 
 -- an instruction that does not stop the machine leaves one fewer
 pub run-goes_on : (n k : ℕ) (m : Machine) → k < n → (step m).stop ≡ None → run (n - k) m ≡ run (n - (k + 1)) (step m).machine
@@ -12,7 +12,7 @@ run-goes_on n k m h e =
     let left : n - k ≡ suc (n - (k + 1)) = omega arith in rw left (rw e refl)
 
 -- an instruction that stops the machine ends the run
-pub run-stops : (n k : ℕ) (m : Machine) (s : Stop) → k < n → (step m).stop ≡ Some s
+pub run-stops : (n k : ℕ) (m : Machine) (s : Halt) → k < n → (step m).stop ≡ Some s
     → run (n - k) m ≡ record { machine = (step m).machine; stop = s }
 unfolding run
 run-stops n k m s h e =
@@ -24,7 +24,7 @@ unfolding run
 run-ends n k m h = let left : n - k ≡ 0 = omega arith in rw left refl
 
 -- the run ended at an instruction that stopped the machine
-pub run-stopped : (n k : ℕ) (m after start : Machine) (s : Stop) (told : Option Stop) → k < n → run (n - k) m ≡ run n start
+pub run-stopped : (n k : ℕ) (m after start : Machine) (s : Halt) (told : Option Halt) → k < n → run (n - k) m ≡ run n start
     → after ≡ (step m).machine → told ≡ (step m).stop → told ≡ Some s
     → (after ≡ (run n start).machine) × (s ≡ (run n start).stop)
 run-stopped n k m after start s told h invariant machine stop is =

@@ -3,14 +3,15 @@ use Rattle.std.proofs.Common.{ℕ, List, ◌+◌, ◌*◌, ◌/◌, ◌%◌, ◌
 use Rattle.rv32.specs.Decode.{decode}
 use Rattle.rv32.specs.Operate.{compares}
 use Rattle.rv32.specs.Memory.{holds}
-use Rattle.rv32.specs.Machine.{Outcome, LeavesIt, value_of, address, value_at, go_to, go_on, stop_for, with_value, next_address, after_taken, after_load, after_unsigned_load, after_store, store, execute, next_word, execute_decoded, execute_word, step}
+use Rattle.rv32.specs.Machine.{Outcome, LeavesIt, value_of, address, value_at, go_to, go_on, stop_for, with_value, next_address}
+use Rattle.rv32.specs.Machine.{after_taken, after_load, after_unsigned_load, after_store, store, execute, next_word, execute_decoded, execute_word, step}
 use Rattle.rv32.specs.declared.instruction.Size.{Size}
 use Rattle.rv32.specs.declared.instruction.Size.TheVariants.{Byte, Half, Word}
 use Rattle.rv32.specs.declared.instruction.Instruction.{Instruction}
 use Rattle.rv32.specs.declared.instruction.Instruction.TheVariants.{LoadUpper, AddUpper, Jump, JumpTo, Branch, Load, LoadUnsigned, Store, OperateValue, Operate, Fence}
 use Rattle.rv32.specs.declared.instruction.Instruction.TheVariants as instructions
 use Rattle.rv32.specs.declared.machine.Machine.{Machine}
-use Rattle.rv32.specs.declared.machine.Stop.TheVariants.{Misaligned}
+use Rattle.rv32.specs.declared.machine.Halt.TheVariants.{Misaligned}
 
 -- an outcome that leaves the machine so
 abbrev Leaves : Machine → Outcome → Type 0

@@ -10,18 +10,18 @@ use Rattle.rv32.specs.declared.instruction.Instruction.{Instruction}
 use Rattle.rv32.specs.declared.instruction.Instruction.TheVariants.{LoadUpper, AddUpper, Jump, JumpTo, Branch, Load, LoadUnsigned, Store, OperateValue, Operate, Fence}
 use Rattle.rv32.specs.declared.instruction.Instruction.TheVariants as instructions
 use Rattle.rv32.specs.declared.machine.Machine.{Machine}
-use Rattle.rv32.specs.declared.machine.Stop.{Stop}
-use Rattle.rv32.specs.declared.machine.Stop.TheVariants.{Call, Break, Illegal, NoInstruction, Misaligned, Outside, Budget}
+use Rattle.rv32.specs.declared.machine.Halt.{Halt}
+use Rattle.rv32.specs.declared.machine.Halt.TheVariants.{Call, Break, Illegal, NoInstruction, Misaligned, Outside, Budget}
 
 -- the machine after one instruction, and why it stops if it does
 pub record Outcome : Type 0 where
   pub machine : Machine
-  pub stop : Option Stop
+  pub stop : Option Halt
 
 -- the machine where it stopped, and why
 pub record RunEnd : Type 0 where
   pub machine : Machine
-  pub stop : Stop
+  pub stop : Halt
 
 -- what a register holds
 abbrev pub value_of : Machine → ℕ → ℕ
@@ -44,7 +44,7 @@ abbrev pub go_on : Machine → Outcome
 go_on m = go_to m (next_address m)
 
 -- it stops as it is
-abbrev pub stop_for : Machine → Stop → Outcome
+abbrev pub stop_for : Machine → Halt → Outcome
 stop_for m s = record { machine = m; stop = Some s }
 
 -- a register is set, and it goes on
@@ -144,7 +144,7 @@ unfoldable pub step : Machine → Outcome
 step m = execute_word m (next_word m)
 
 -- it goes on where it did not stop
-abbrev pub goes_on : (Machine → RunEnd) → Machine → Option Stop → RunEnd
+abbrev pub goes_on : (Machine → RunEnd) → Machine → Option Halt → RunEnd
 goes_on go m None = go m
 goes_on go m (Some s) = record { machine = m; stop = s }
 
@@ -154,7 +154,7 @@ run zero m = record { machine = m; stop = Budget }
 run (suc n) m = goes_on (run n) (step m).machine (step m).stop
 
 -- the machine is as it was where it stops, unless it stops for a call
-abbrev pub LeavesIt : Option Stop → Machine → Machine → Type 0
+abbrev pub LeavesIt : Option Halt → Machine → Machine → Type 0
 LeavesIt None before after = Unit {0}
 LeavesIt (Some Call) before after = Unit {0}
 LeavesIt (Some stop) before after = after ≡ before

@@ -13,6 +13,6 @@ pub mod register;
 pub use decoding::decode;
 pub use instruction::{Comparison, Instruction, Operation, Size};
 pub use laws::a_stop_changes_nothing;
-pub use machine::{Machine, Stop};
+pub use machine::{Halt, Machine};
 pub use memory::{BASE, Memory};
 pub use register::Register;

@@ -8,7 +8,7 @@ use crate::register::Register;
 
 /// Why a machine stops.
 #[derive(Clone, Copy, Debug, PartialEq, Eq)]
-pub enum Stop {
+pub enum Halt {
     /// `ECALL`. The machine goes on with the instruction that follows.
     Call,
     /// `EBREAK`.
@@ -54,7 +54,7 @@ impl Machine {
     }
 
     #[inline(always)]
-    fn go_on(&mut self) -> Option<Stop>
+    fn go_on(&mut self) -> Option<Halt>
         ensures machine { self.new ≡ (isa.go_on self.old).machine }
         ensures stop { result ≡ (isa.go_on self.old).stop }
     {
@@ -63,7 +63,7 @@ impl Machine {
     }
 
     #[inline(always)]
-    fn put(&mut self, to: Register, value: u32) -> Option<Stop>
+    fn put(&mut self, to: Register, value: u32) -> Option<Halt>
         ensures machine { self.new ≡ (isa.after_put self.old to value).machine }
         ensures stop { result ≡ (isa.after_put self.old to value).stop }
     {
@@ -73,7 +73,7 @@ impl Machine {
 
     /// A jump, with the address of the instruction that follows in a register.
     #[inline(always)]
-    fn jump(&mut self, link: Register, address: u32) -> Option<Stop>
+    fn jump(&mut self, link: Register, address: u32) -> Option<Halt>
         ensures machine { self.new ≡ (isa.after_jump self.old link address).machine }
         ensures stop { result ≡ (isa.after_jump self.old link address).stop }
     {
@@ -83,12 +83,12 @@ impl Machine {
             self.pc = address;
             None
         } else {
-            Some(Stop::Misaligned)
+            Some(Halt::Misaligned)
         }
     }
 
     #[inline(always)]
-    fn take_branch(&mut self, address: u32) -> Option<Stop>
+    fn take_branch(&mut self, address: u32) -> Option<Halt>
         ensures machine { self.new ≡ (isa.after_taken self.old address).machine }
         ensures stop { result ≡ (isa.after_taken self.old address).stop }
     {
@@ -96,7 +96,7 @@ impl Machine {
             self.pc = address;
             None
         } else {
-            Some(Stop::Misaligned)
+            Some(Halt::Misaligned)
         }
     }
 
@@ -107,7 +107,7 @@ impl Machine {
         one: Register,
         other: Register,
         offset: u32,
-    ) -> Option<Stop>
+    ) -> Option<Halt>
         ensures machine { self.new ≡ (isa.after_branch self.old when one other offset).machine }
         ensures stop { result ≡ (isa.after_branch self.old when one other offset).stop }
     {
@@ -128,25 +128,25 @@ impl Machine {
 
     /// What was found goes into a register.
     #[inline(always)]
-    fn put_unsigned(&mut self, to: Register, found: Option<u32>) -> Option<Stop>
+    fn put_unsigned(&mut self, to: Register, found: Option<u32>) -> Option<Halt>
         ensures machine { self.new ≡ (isa.after_unsigned_load self.old to found).machine }
         ensures stop { result ≡ (isa.after_unsigned_load self.old to found).stop }
     {
         match found {
             Some(value) => self.put(to, value),
-            None => Some(Stop::Outside),
+            None => Some(Halt::Outside),
         }
     }
 
     /// The same for a value that is extended by its sign.
     #[inline(always)]
-    fn put_signed(&mut self, size: Size, to: Register, found: Option<u32>) -> Option<Stop>
+    fn put_signed(&mut self, size: Size, to: Register, found: Option<u32>) -> Option<Halt>
         ensures machine { self.new ≡ (isa.after_load self.old size to found).machine }
         ensures stop { result ≡ (isa.after_load self.old size to found).stop }
     {
         match found {
             Some(value) => self.put(to, extended(size, value)),
-            None => Some(Stop::Outside),
+            None => Some(Halt::Outside),
         }
     }
 
@@ -164,20 +164,20 @@ impl Machine {
 
     /// What was stored, where there was memory for it.
     #[inline(always)]
-    fn after_store(&mut self, found: bool) -> Option<Stop>
+    fn after_store(&mut self, found: bool) -> Option<Halt>
         ensures machine { self.new ≡ (isa.after_store self.old found).machine }
         ensures stop { result ≡ (isa.after_store self.old found).stop }
     {
         if found {
             self.go_on()
         } else {
-            Some(Stop::Outside)
+            Some(Halt::Outside)
         }
     }
 
     #[inline(always)]
     #[tactic(auto, unfolding(crate::specs::Machine::store))]
-    fn store(&mut self, size: Size, address: u32, value: u32) -> Option<Stop>
+    fn store(&mut self, size: Size, address: u32, value: u32) -> Option<Halt>
         ensures machine { self.new ≡ (isa.store size self.old address value).machine }
         ensures stop { result ≡ (isa.store size self.old address value).stop }
     {
@@ -191,7 +191,7 @@ impl Machine {
 
     #[inline(always)]
     #[tactic(auto, unfolding(crate::specs::Machine::execute))]
-    fn execute(&mut self, instruction: Instruction) -> Option<Stop>
+    fn execute(&mut self, instruction: Instruction) -> Option<Halt>
         ensures machine { self.new ≡ (isa.execute instruction self.old).machine }
         ensures stop { result ≡ (isa.execute instruction self.old).stop }
     {
@@ -254,9 +254,9 @@ impl Machine {
             Instruction::Fence => self.go_on(),
             Instruction::Call => {
                 self.pc = self.pc.wrapping_add(4);
-                Some(Stop::Call)
+                Some(Halt::Call)
             }
-            Instruction::Break => Some(Stop::Break),
+            Instruction::Break => Some(Halt::Break),
         }
     }
 
@@ -275,21 +275,21 @@ impl Machine {
     /// The next instruction. Where it stops for another reason than `ECALL`, the machine stays as it is.
     #[inline(always)]
     #[tactic(auto, unfolding(crate::specs::Machine::step))]
-    pub fn step(&mut self) -> Option<Stop>
+    pub fn step(&mut self) -> Option<Halt>
         ensures machine { self.new ≡ (isa.step self.old).machine }
         ensures stop { result ≡ (isa.step self.old).stop }
     {
         match self.next_word() {
             Some(word) => match decode(word) {
                 Some(instruction) => self.execute(instruction),
-                None => Some(Stop::Illegal),
+                None => Some(Halt::Illegal),
             },
-            None => Some(Stop::NoInstruction),
+            None => Some(Halt::NoInstruction),
         }
     }
 
     /// So many instructions, or fewer where one stops the machine.
-    pub fn run(&mut self, budget: u32) -> Stop
+    pub fn run(&mut self, budget: u32) -> Halt
         ensures machine { self.new ≡ (isa.run budget self.old).machine }
         ensures stop { result ≡ (isa.run budget self.old).stop }
     {
@@ -298,6 +298,6 @@ impl Machine {
                 return stop;
             }
         }
-        Stop::Budget
+        Halt::Budget
     }
 }

@@ -5,7 +5,7 @@
 #![tactic(auto)]
 
 use anyhow::Result;
-use rv32::{BASE, Machine, Memory, Stop};
+use rv32::{BASE, Halt, Machine, Memory};
 use std::io::Write;
 use std::process::ExitCode;
 use std::{env, fs, io};
@@ -40,7 +40,7 @@ const EXIT: u32 = 93;
 enum Served {
     GoesOn,
     Exits(u8),
-    Stops(Stop),
+    Stops(Halt),
 }
 
 /// Serves a call.
@@ -50,13 +50,13 @@ fn serve<W: Write>(machine: &mut Machine, out: &mut W) -> io::Result<Served> {
             let size = machine.registers[A2];
             match machine.memory.slice(machine.registers[A1], size) {
                 Some(bytes) => out.write_all(bytes)?,
-                None => return Ok(Served::Stops(Stop::Outside)),
+                None => return Ok(Served::Stops(Halt::Outside)),
             }
             machine.registers[A0] = size;
             Ok(Served::GoesOn)
         }
         EXIT => Ok(Served::Exits((machine.registers[A0] % 0x100) as u8)),
-        _ => Ok(Served::Stops(Stop::Call)),
+        _ => Ok(Served::Stops(Halt::Call)),
     }
 }
 
@@ -64,8 +64,8 @@ fn serve<W: Write>(machine: &mut Machine, out: &mut W) -> io::Result<Served> {
 fn run<W: Write>(machine: &mut Machine, out: &mut W) -> io::Result<Served> {
     for _ in 0..PIECES {
         let served = match machine.run(BUDGET) {
-            Stop::Budget => Served::GoesOn,
-            Stop::Call => serve(machine, out)?,
+            Halt::Budget => Served::GoesOn,
+            Halt::Call => serve(machine, out)?,
             stop => Served::Stops(stop),
         };
         match served {
@@ -73,7 +73,7 @@ fn run<W: Write>(machine: &mut Machine, out: &mut W) -> io::Result<Served> {
             end => return Ok(end),
         }
     }
-    Ok(Served::Stops(Stop::Budget))
+    Ok(Served::Stops(Halt::Budget))
 }
 
 fn main(rt: HostRuntime) -> Result<ExitCode> {

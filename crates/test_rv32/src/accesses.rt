@@ -1,7 +1,7 @@
 //! Loads and stores, at both ends of the memory too.
 
 use crate::machines::machine_of;
-use rv32::{BASE, Stop};
+use rv32::{BASE, Halt};
 use std::alloc::AllocError;
 use std::process::Abort;
 
@@ -217,7 +217,7 @@ fn loads(rt: HostRuntime) -> Result<(), AllocError> {
         let stop = machine.step();
         let (wanted, value, pc) = match *want {
             Some(value) => (None, value, BASE + 4),
-            None => (Some(Stop::Outside), 0, BASE),
+            None => (Some(Halt::Outside), 0, BASE),
         };
         assert!(rt; stop == wanted, "{name} at {one}");
         assert_eq!(rt; machine.registers[3], value, "{name} at {one}");
@@ -234,7 +234,7 @@ fn stores(rt: HostRuntime) -> Result<(), AllocError> {
         let (wanted, pc) = if *is_there {
             (None, BASE + 4)
         } else {
-            (Some(Stop::Outside), BASE)
+            (Some(Halt::Outside), BASE)
         };
         assert!(rt; stop == wanted, "{name} at {one}");
         assert!(rt;

@@ -1,7 +1,7 @@
 //! Branches and jumps: where they lead, what they leave in x3, and when they stop.
 
 use crate::machines::machine_of;
-use rv32::{BASE, Stop};
+use rv32::{BASE, Halt};
 use std::alloc::AllocError;
 use std::process::Abort;
 
@@ -145,7 +145,7 @@ fn jumps(rt: HostRuntime) -> Result<(), AllocError> {
         let (wanted, pc, link) = match *to {
             To::Goes(pc) => (None, pc, 0),
             To::Links(pc) => (None, pc, BASE + 4),
-            To::Misaligned => (Some(Stop::Misaligned), BASE, 0),
+            To::Misaligned => (Some(Halt::Misaligned), BASE, 0),
         };
         assert!(rt; stop == wanted, "{name}");
         assert_eq!(rt; machine.pc, pc, "{name}");
