@@ -12,7 +12,7 @@ pub mod register;
 
 pub use decoding::decode;
 pub use instruction::{Comparison, Instruction, Operation, Size};
-pub use laws::a_stop_changes_nothing;
+pub use laws::{a_stop_changes_nothing, x0_stays_zero};
 pub use machine::{Halt, Machine};
 pub use memory::{BASE, Memory};
 pub use register::Register;
