@@ -121,15 +121,20 @@ fn is_zero(byte: &u8) -> bool {
     *byte == 0
 }
 
+/// Whether a block of the board holds anything but zeros.
+fn is_used<B: Board>(board: &mut B, block: u64) -> Result<bool, Ended> {
+    let mut bytes = [0; 1024];
+    if block < board.blocks() && board.read(block, &mut bytes).is_err() {
+        return Err(Ended::BoardFault);
+    }
+    Ok(!bytes.iter().all(is_zero))
+}
+
 /// Writes all blocks that aren't zeros.
 fn write_all_blocks<B: Board>(text: &mut String, board: &mut B, json: bool) -> Result<(), Ended> {
     let mut is_first = true;
-    let mut bytes = [0; 1024];
     for block in 0..board.blocks() {
-        if board.read(block, &mut bytes).is_err() {
-            return Err(Ended::BoardFault);
-        }
-        if bytes.iter().all(is_zero) {
+        if !is_used(board, block)? {
             continue;
         }
         if json {
