@@ -2,7 +2,6 @@
 
 use super::player::{PLAIN, Play, Player};
 use super::tables::{Do, Row, Table, begun, check, run};
-use app_api::Login;
 use app_side::TurnKind;
 use std::alloc::Global;
 use std::process::Abort;
@@ -99,17 +98,17 @@ const MASKS: &[Row] = &[
 
 /// Create and start know the client that opens the session.
 const WHO_OPENS: &[Row] = &[
-    (Do::OpenAs(1, Login::User(1000)), &[]),
+    (Do::OpenUser(1, 1000), &[]),
     (Do::Turns(9), &[(1, FINE, APP)]),
-    (Do::OpenAs(2, Login::Group(100)), &[]),
+    (Do::OpenGroup(2, 100), &[]),
     (Do::Turns(5), &[(2, FINE, APP)]),
 ];
 
 /// Each session keeps its client's login.
 const WHO_INVOKES: &[Row] = &[
-    (Do::OpenAs(1, Login::User(1000)), &[]),
+    (Do::OpenUser(1, 1000), &[]),
     (Do::Turns(5), &[(1, FINE, APP)]),
-    (Do::OpenAs(2, Login::Group(100)), &[]),
+    (Do::OpenGroup(2, 100), &[]),
     (Do::Turns(3), &[(2, FINE, APP)]),
     (Do::Invoke(1), &[]),
     (Do::Turns(5), &[(3, FINE, APP)]),
@@ -117,7 +116,7 @@ const WHO_INVOKES: &[Row] = &[
 
 /// Stop still knows the client, and destroy knows none.
 const WHO_CLOSES: &[Row] = &[
-    (Do::OpenAs(1, Login::User(1000)), &[]),
+    (Do::OpenUser(1, 1000), &[]),
     (Do::Turns(5), &[(1, FINE, APP)]),
     (Do::Close(1), &[]),
     (Do::Turns(9), &[(2, FINE, APP)]),

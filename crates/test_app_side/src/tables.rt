@@ -18,7 +18,9 @@ use uuid::Uuid;
 pub enum Do {
     Open(u32),
     OpenFor(u8, u32),
-    OpenAs(u32, Login),
+    OpenUser(u32, u32),
+    /// The same as a group of this number.
+    OpenGroup(u32, u32),
     Invoke(u32),
     Close(u32),
     Cancel(u64),
@@ -89,7 +91,8 @@ fn call_of(what: &Do) -> (u8, Call) {
     match what {
         Do::Open(label) => (0, open_as(*label, &Login::Public)),
         Do::OpenFor(client, label) => (*client, open_as(*label, &Login::Public)),
-        Do::OpenAs(label, login) => (0, open_as(*label, login)),
+        Do::OpenUser(label, number) => (0, open_as(*label, &Login::User(*number))),
+        Do::OpenGroup(label, number) => (0, open_as(*label, &Login::Group(*number))),
         Do::Invoke(label) => (
             0,
             Call::Invoke {
