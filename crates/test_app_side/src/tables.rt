@@ -18,8 +18,9 @@ use uuid::Uuid;
 pub enum Do {
     Open(u32),
     OpenFor(u8, u32),
+    /// An open as the user of this number.
     OpenUser(u32, u32),
-    /// The same as a group of this number.
+    /// An open as the group of this number.
     OpenGroup(u32, u32),
     Invoke(u32),
     Close(u32),
