@@ -38,6 +38,7 @@ Store 12 vi:CODE:0                         panics
 Store 13 vi:N:0                            asks N times whether it is cancelled
 Store 14 vi:N:MASK                         the same, and unmasks cancellation where MASK is 1
 Store 15 mo                                draws random bytes
+Store 16 mo                                tells who the client is
 ";
 
 const COUNT: &str = "\
@@ -50,6 +51,7 @@ Crypt 1 mi vi:ALGORITHM:MODE mi            begins a message with a key and a vec
 Crypt 2 mi mo                              takes in the next bytes of the message
 Crypt 3 mi mo                              takes in the last bytes, and ends the message
 Crypt 4 mi mi                              takes in the last bytes, and compares the code
+Crypt 5 mi mi mo                           takes in the last bytes of a sealed text, and compares the tag
 ";
 
 const ROGUE: &str = "\

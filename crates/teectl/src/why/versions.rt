@@ -25,8 +25,12 @@ fn header_in(slot: &[u8; 2048]) -> Option<(u64, u32)> {
     Some((u64::from_le_bytes(sequence), version))
 }
 
-/// The version of the header that counts in an image, as its first blocks tell it; none where there is none.
+/// The version of the header that counts in an image, as its first blocks tell it; none where there is none, or where the
+/// image is no plain file.
 pub fn version_in<R: Files>(rt: &R, image: &str) -> Option<u32> {
+    if !fs::metadata(rt, image).ok()?.is_file() {
+        return None;
+    }
     let mut file = fs::open(rt, image).ok()?;
     let (mut first, mut second) = ([0; 2048], [0; 2048]);
     file.read_exact(&mut first).ok()?;
