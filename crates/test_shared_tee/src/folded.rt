@@ -359,15 +359,23 @@ fn fold_anew<A: Application>(
     drop(side);
 }
 
+/// Whether the call is an open by the user 1000.
+fn is_by_user(call: &Call) -> bool {
+    match call {
+        Call::Open { login, .. } => match login {
+            Login::User(number) => *number == 1000,
+            _ => false,
+        },
+        _ => false,
+    }
+}
+
 /// Whether the entry is the open of the user 1000.
 fn is_opened_by_user(entry: &LogEntry) -> bool {
-    matches!(
-        &entry.event,
-        LogEvent::Call(Call::Open {
-            login: Login::User(1000),
-            ..
-        })
-    )
+    match &entry.event {
+        LogEvent::Call(call) => is_by_user(call),
+        _ => false,
+    }
 }
 
 /// The log has a thread's calls with their turns, a reply to each call, and first the open with its login.
