@@ -123,7 +123,7 @@ module _ {A : Type 0} (behaviour : Behaviour A) where
 
   -- ---- any events
 
-  step_sound : (m : Machine A) (event : Event) → IsSoundMachine m → IsSoundMachine (step behaviour m event).machine
+  pub step_sound : (m : Machine A) (event : Event) → IsSoundMachine m → IsSoundMachine (step behaviour m event).machine
   step_sound m (Called client call) h = (takes m client call h).sound
   step_sound m (Turned i) h = (turns behaviour Serves m i h).sound
   step_sound m (TurnLost i) h = (turns behaviour Fails m i h).sound

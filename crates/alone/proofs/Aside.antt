@@ -26,6 +26,7 @@ module _ {A : Type 0} (P : ℕ → ℕ → Option Store → Type 0) where
     removed = λ m session same. same;
     ending = λ m i same. same;
     gone = λ m i same. same;
+    delivered = λ m op os same. same;
     objects = λ m i ask same. goes_all (λ _. Rests m) (object_resolution (objects_of m) i ask) (λ _. same);
     crypto = λ m s stream same. same;
     made = λ m i object bits random same. goes_all (λ _. Rests m) (generate_resolution (objects_of m) i object bits random) (λ _. same);
@@ -35,7 +36,8 @@ module _ {A : Type 0} (P : ℕ → ℕ → Option Store → Type 0) where
   rests_by_calls = record {
     at_once = λ m same. same;
     dead_gone = λ m session same. same;
-    waits = λ m client i session call same. same;
-    closes = λ m client i session call same. same;
-    opens = λ m client label login a call same. same;
+    waits = λ m client i session call usable same. same;
+    closes = λ m client i session call usable same. same;
+    opens = λ m client label login a call usable same. same;
+    shared = λ m blocks change same. same;
   }

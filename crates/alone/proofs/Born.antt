@@ -5,6 +5,7 @@ use Rattle.std.proofs.lemmas.Bool.{cond_both}
 use Rattle.std.proofs.lemmas.List.{length_push, length-map}
 use Rattle.std.proofs.lemmas.List.Sums.{length-filter, count_by-le-length}
 use Rattle.app_api.specs.declared.call.Call.{Call}
+use Rattle.app_api.specs.Calls.{call_references}
 use Rattle.op_queue.specs.declared.operation.Progress.TheVariants.{Waiting}
 use Rattle.op_queue.specs.declared.operation.Operation.{Operation}
 use Rattle.op_queue.specs.declared.operation.Cancelled.{Cancelled as Cancellation}
@@ -49,7 +50,8 @@ cancel_length q op Flagged = omega (arith, length-map q.operations (as_requested
 cancel_length q op Nothing = omega arith
 
 submitted_length : (q : Queue) (client i session : ℕ) (call : Call) → length (with_operation q client i session call).operations ≡ length q.operations + 1
-submitted_length q client i session call = length_push q.operations (record { number = q.next; client = client; session = session; instance = i; progress = Waiting call })
+submitted_length q client i session call =
+    length_push q.operations (record { number = q.next; client = client; session = session; instance = i; references = call_references call; progress = Waiting call })
 
 entered_length : {A : Type 0} (b : Bool) (xs : List (Instance A)) (new : Instance A) → length (cond b (xs ++ new ∷ []) xs) ≤ length xs + 1
 entered_length true xs new = omega (arith, length_push xs new)
@@ -73,6 +75,7 @@ module _ {A : Type 0} where
     removed = λ m session few. few;
     ending = λ m i few. few;
     gone = gone_few n;
+    delivered = λ m op os few. few;
     objects = λ m i ask few. goes_all (λ _. IsFew n m) (object_resolution (objects_of m) i ask) (λ _. few);
     crypto = λ m s stream few. few;
     made = λ m i object bits random few. goes_all (λ _. IsFew n m) (generate_resolution (objects_of m) i object bits random) (λ _. few);
@@ -82,10 +85,11 @@ module _ {A : Type 0} where
   calls_few n = record {
     at_once = λ m few. omega (arith, few);
     dead_gone = λ m session few. omega (arith, few);
-    waits = λ m client i session call few. omega (arith, few, submitted_length m.queue client i session call);
-    closes = λ m client i session call few. omega (arith, few, submitted_length m.queue client i session call);
-    opens = λ m client label login a call few.
+    waits = λ m client i session call usable few. omega (arith, few, submitted_length m.queue client i session call);
+    closes = λ m client i session call usable few. omega (arith, few, submitted_length m.queue client i session call);
+    opens = λ m client label login a call usable few.
         omega (arith, few, submitted_length m.queue client a.instance a.session call, entered_length a.new_instance m.instances (new_instance m.template a.instance));
+    shared = λ m blocks change few. omega (arith, few);
   }
 
   pub step_few : (behaviour : Behaviour A) (m : Machine A) (event : Event) → live (step behaviour m event).machine ≤ live m + born_of event

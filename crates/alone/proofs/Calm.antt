@@ -31,7 +31,7 @@ abbrev pub counting : ℕ → List Session → ℕ
 counting i ss = sessions_of (counts_in i) ss
 
 abbrev pub is_destroy : EntryPoint → Bool
-is_destroy (stages.Create session ps places) = false
+is_destroy (stages.Create session client ps) = false
 is_destroy (stages.Start session places) = false
 is_destroy (stages.Invoke session places) = false
 is_destroy (stages.Stop session) = false

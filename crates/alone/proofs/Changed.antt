@@ -13,6 +13,7 @@ use Rattle.op_queue.specs.declared.operation.Operation.{Operation}
 use Rattle.op_queue.specs.declared.operation.Progress.TheVariants.{Waiting, Running as Runs}
 use Rattle.op_queue.specs.Queue.{Queue, IsQueue, ComesBefore, is_close, is_close_call, is_running, waits_for, first_waiting, as_running, after_begin, without}
 use Rattle.op_queue.proofs.Keeps.{started_IsQueue, without_IsQueue}
+use Rattle.shared_mem.specs.declared.block.Block.{Block}
 use Rattle.alone.specs.declared.active_entry.Instance.{Instance}
 use Rattle.alone.specs.declared.active_entry.ActiveEntry.{ActiveEntry}
 use Rattle.alone.specs.declared.active_entry.EntryPoint.{EntryPoint}
@@ -92,47 +93,61 @@ started_more f q os o e once =
     (alike operation_number n q os o once e refl) in
     omega (arith, mapped, parts, total_le_each (λ x. f (as_running n x)) (λ x. f x + cond (x.number == n) c 0) os each, total_once operation_number n c os once)
 
-first_claim : (created : Bool) (i op session : ℕ) (call : Call) → claim_of_entry i (Some (first_entry created op session call)) ≡ claim_of_call session i call
-first_claim false i op session (calls.Open label login ps) = refl
-first_claim true i op session (calls.Open label login ps) = refl
-first_claim false i op session (calls.Invoke label command ps) = refl
-first_claim true i op session (calls.Invoke label command ps) = refl
-first_claim false i op session (calls.Close label) = refl
-first_claim true i op session (calls.Close label) = refl
+first_claim : (blocks : List Block) (created : Bool) (i op client session : ℕ) (call : Call)
+    → claim_of_entry i (Some (first_entry blocks created op client session call)) ≡ claim_of_call session i call
+first_claim blocks false i op client session (calls.Open label login ps) = refl
+first_claim blocks true i op client session (calls.Open label login ps) = refl
+first_claim blocks false i op client session (calls.Invoke label command ps) = refl
+first_claim blocks true i op client session (calls.Invoke label command ps) = refl
+first_claim blocks false i op client session (calls.Close label) = refl
+first_claim blocks true i op client session (calls.Close label) = refl
+first_claim blocks created i op client session (calls.Share block flags size) = refl
+first_claim blocks created i op client session (calls.Fill block at bytes) = refl
+first_claim blocks created i op client session (calls.Show block) = refl
+first_claim blocks created i op client session (calls.Unshare block) = refl
 
-first_weight : (created : Bool) (p : Run → Bool) (i op session : ℕ) (call : Call) → weigh_entry p i (Some (first_entry created op session call)) ≡ bit (p (run op i (is_close_call call)))
-first_weight false p i op session (calls.Open label login ps) = refl
-first_weight true p i op session (calls.Open label login ps) = refl
-first_weight false p i op session (calls.Invoke label command ps) = refl
-first_weight true p i op session (calls.Invoke label command ps) = refl
-first_weight false p i op session (calls.Close label) = refl
-first_weight true p i op session (calls.Close label) = refl
+first_weight : (blocks : List Block) (created : Bool) (p : Run → Bool) (i op client session : ℕ) (call : Call)
+    → weigh_entry p i (Some (first_entry blocks created op client session call)) ≡ bit (p (run op i (is_close_call call)))
+first_weight blocks false p i op client session (calls.Open label login ps) = refl
+first_weight blocks true p i op client session (calls.Open label login ps) = refl
+first_weight blocks false p i op client session (calls.Invoke label command ps) = refl
+first_weight blocks true p i op client session (calls.Invoke label command ps) = refl
+first_weight blocks false p i op client session (calls.Close label) = refl
+first_weight blocks true p i op client session (calls.Close label) = refl
+first_weight blocks created p i op client session (calls.Share block flags size) = refl
+first_weight blocks created p i op client session (calls.Fill block at bytes) = refl
+first_weight blocks created p i op client session (calls.Show block) = refl
+first_weight blocks created p i op client session (calls.Unshare block) = refl
 
-first_stays : (created : Bool) (op session : ℕ) (call : Call) → destroys (Some (first_entry created op session call)) ≡ false
-first_stays false op session (calls.Open label login ps) = refl
-first_stays true op session (calls.Open label login ps) = refl
-first_stays false op session (calls.Invoke label command ps) = refl
-first_stays true op session (calls.Invoke label command ps) = refl
-first_stays false op session (calls.Close label) = refl
-first_stays true op session (calls.Close label) = refl
+first_stays : (blocks : List Block) (created : Bool) (op client session : ℕ) (call : Call) → destroys (Some (first_entry blocks created op client session call)) ≡ false
+first_stays blocks false op client session (calls.Open label login ps) = refl
+first_stays blocks true op client session (calls.Open label login ps) = refl
+first_stays blocks false op client session (calls.Invoke label command ps) = refl
+first_stays blocks true op client session (calls.Invoke label command ps) = refl
+first_stays blocks false op client session (calls.Close label) = refl
+first_stays blocks true op client session (calls.Close label) = refl
+first_stays blocks created op client session (calls.Share block flags size) = refl
+first_stays blocks created op client session (calls.Fill block at bytes) = refl
+first_stays blocks created op client session (calls.Show block) = refl
+first_stays blocks created op client session (calls.Unshare block) = refl
 
 -- the instance's first operation that waits is the instance's
 pub first_is_own : (q : Queue) (i : ℕ) (o : Operation) → first_waiting q i ≡ Some o → o.instance ≡ i
 first_is_own q i o e = eqb-true o.instance i ((and_parts (o.instance == i) (not (is_running o.progress)) (found_passes (waits_for i) q.operations o e)).0)
 
-pub sound_begun : {A : Type 0} (q : Queue) (t : Table) (xs : List (Instance A)) (inst : Instance A) (o : Operation) (call : Call) → IsSound q t xs
+pub sound_begun : {A : Type 0} (blocks : List Block) (q : Queue) (t : Table) (xs : List (Instance A)) (inst : Instance A) (o : Operation) (call : Call) → IsSound q t xs
     → find (is_number inst.number) xs ≡ Some inst → inst.running ≡ None → first_waiting q inst.number ≡ Some o → o.progress ≡ Waiting call
-    → IsSound (after_begin q (Some o)) t (put_instance (record inst { running = Some (first_entry inst.created o.number o.session call) }) xs)
-sound_begun {A} q t xs inst o call h found idle first waits =
+    → IsSound (after_begin q (Some o)) t (put_instance (record inst { running = Some (first_entry blocks inst.created o.number o.client o.session call) }) xs)
+sound_begun {A} blocks q t xs inst o call h found idle first waits =
     let i = inst.number in
-    let new : Instance A = record inst { running = Some (first_entry inst.created o.number o.session call) } in
+    let new : Instance A = record inst { running = Some (first_entry blocks inst.created o.number o.client o.session call) } in
     let own : o.instance ≡ i = first_is_own q i o first in
     let claim_old : claim_in inst ≡ None = ap (claim_of_entry i) idle in
-    let claim_new : claim_in new ≡ claim_of o = first_claim inst.created i o.number o.session call ∙ ap (claim_of_progress o.session i) (sym waits)
+    let claim_new : claim_in new ≡ claim_of o = first_claim blocks inst.created i o.number o.client o.session call ∙ ap (claim_of_progress o.session i) (sym waits)
     ∙ ap (λ k. claim_of_progress o.session k o.progress) (sym own) in
     let run_old : (p : Run → Bool) → weigh_in p inst ≡ 0 = λ p. ap (weigh_entry p i) idle in
     let run_new : (p : Run → Bool) → weigh_in p new ≡ weigh p (run_of (begun_from o)) =
-    λ p. first_weight inst.created p i o.number o.session call ∙ ap (λ progress. bit (p (run o.number i (is_close progress)))) (sym waits) ∙ ap
+    λ p. first_weight blocks inst.created p i o.number o.client o.session call ∙ ap (λ progress. bit (p (run o.number i (is_close progress)))) (sym waits) ∙ ap
     (λ k. bit (p (run o.number k (is_close o.progress)))) (sym own) in
     record {
       queue = started_IsQueue q o.number h.queue;
@@ -159,7 +174,7 @@ sound_begun {A} q t xs inst o call h found idle first waits =
         run_old p,
         run_new p,
       );
-      calm = calm_put t xs new inst h.calm found (omega (arith, ap bit (first_stays inst.created o.number o.session call)));
+      calm = calm_put t xs new inst h.calm found (omega (arith, ap bit (first_stays blocks inst.created o.number o.client o.session call)));
     }
 
 -- ---- an operation is answered
@@ -185,7 +200,7 @@ op_gone : (p : Run → Bool) (op i : ℕ) (stage : EntryPoint) → weigh_op (oth
 op_gone p op i stage = go stage (λ close. ap (λ b. bit (not b && p (run op i close))) (eq-eqb op op refl))
   where
     go : (stage : EntryPoint) → ((close : Bool) → bit (other_op op p (run op i close)) ≡ 0) → weigh_op (other_op op p) i op stage ≡ 0
-    go (stages.Create session ps places) none = none false
+    go (stages.Create session client ps) none = none false
     go (stages.Start session places) none = none false
     go (stages.Invoke session places) none = none false
     go (stages.Stop session) none = none true

@@ -44,11 +44,15 @@ close_holds : (op session i : ℕ) (progress : Progress) → bit (is_close progr
 close_holds op session i (Waiting (calls.Open label login ps)) = omega arith
 close_holds op session i (Waiting (calls.Invoke label command ps)) = omega arith
 close_holds op session i (Waiting (calls.Close label)) = omega arith
+close_holds op session i (Waiting (calls.Share block flags size)) = omega arith
+close_holds op session i (Waiting (calls.Fill block at bytes)) = omega arith
+close_holds op session i (Waiting (calls.Show block)) = omega arith
+close_holds op session i (Waiting (calls.Unshare block)) = omega arith
 close_holds op session i (Runs close cancelled masked) = omega arith
 
 -- one that runs holds it, or its instance is destroyed
 op_holds : (op i : ℕ) (stage : EntryPoint) → weigh_op stopping i op stage ≤ weigh closing (claim_of_stage i stage) + bit (is_destroy stage)
-op_holds op i (stages.Create session ps places) = omega arith
+op_holds op i (stages.Create session client ps) = omega arith
 op_holds op i (stages.Start session places) = omega arith
 op_holds op i (stages.Invoke session places) = omega arith
 op_holds op i (stages.Stop session) = omega arith

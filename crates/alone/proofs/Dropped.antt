@@ -45,6 +45,10 @@ call_claims : (session i : ℕ) (call : Call) (n j : ℕ) → open_of_call sessi
 call_claims session i (calls.Open label login ps) n j e = ap (option_map (λ o. facts o.0 o.1 Opening)) e
 call_claims session i (calls.Invoke label command ps) n j e = absurd (nothing_found (n, j) e)
 call_claims session i (calls.Close label) n j e = absurd (nothing_found (n, j) e)
+call_claims session i (calls.Share block flags size) n j e = absurd (nothing_found (n, j) e)
+call_claims session i (calls.Fill block at bytes) n j e = absurd (nothing_found (n, j) e)
+call_claims session i (calls.Show block) n j e = absurd (nothing_found (n, j) e)
+call_claims session i (calls.Unshare block) n j e = absurd (nothing_found (n, j) e)
 
 progress_claims : (session i : ℕ) (progress : Progress) (n j : ℕ) → open_of_progress session i progress ≡ Some (n, j) → claim_of_progress session i progress ≡ Some (facts n j Opening)
 progress_claims session i (Waiting call) n j e = call_claims session i call n j e

@@ -65,7 +65,7 @@ left_none t i left = go t.sessions (not-true (has_session t i) (and_parts (not (
 
 serves_on : (p : Run → Bool) (i : ℕ) (op : Option ℕ) (stage : EntryPoint) (reply : Option Reply) → weigh_served p i op stage ≤ weigh_served p i op (stages.Destroy reply)
 serves_on p i None stage reply = omega arith
-serves_on p i (Some op) (stages.Create session ps places) reply = omega arith
+serves_on p i (Some op) (stages.Create session client ps) reply = omega arith
 serves_on p i (Some op) (stages.Start session places) reply = omega arith
 serves_on p i (Some op) (stages.Invoke session places) reply = omega arith
 serves_on p i (Some op) (stages.Stop session) reply = omega arith

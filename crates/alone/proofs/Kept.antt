@@ -39,13 +39,14 @@ use Rattle.alone.specs.declared.active_entry.EntryPoint.TheVariants as stages
 use Rattle.alone.specs.declared.active_entry.Waits.{Waits}
 use Rattle.alone.specs.declared.active_entry.Waits.TheVariants as waits
 use Rattle.alone.specs.Asks.{resolution_after, resolution_in_family, entry_resolution, mask_resolution, mask_noted, mask_set_for, objects_of, with_objects}
+use Rattle.alone.specs.Blocks.{given_params}
 use Rattle.alone.specs.Crypto.{drawn_for, outcome_of_effect, key_generate_resolution, generation_resolution, keyed_by, operated_by, outcome_by, with_crypto}
 use Rattle.alone.specs.Families.{family_of}
 use Rattle.alone.specs.Machine.{Machine, instance_at, with_instance}
-use Rattle.alone.specs.Places.{is_misuse, places_at}
+use Rattle.alone.specs.Places.{is_misuse, places_at, shown_outputs}
 use Rattle.alone.specs.Step.{Stepped, after_ask, after_session, after_answer, begun_with, after_cancellation, cancelled_by, destroy_begins, after_destroy_begins}
 use Rattle.alone.specs.Step.{after_dropped_open, instance_gone, is_success, is_unused, masked_again, after_return, serve_outcome, start_begun, store_left}
-use Rattle.alone.specs.Step.{turn_counted, turned_as, turned_at, turned_by, unless_unused, waiting_open, went_on}
+use Rattle.alone.specs.Step.{turn_counted, turned_as, turned_at, turned_by, unless_unused, waiting_open, went_on, with_delivery}
 use Rattle.alone.proofs.Streams.{IsOfStream, LeavesStream, resolution_stream, drawn_stream}
 
 -- each change of which a turn, a cancellation and a teardown are made keeps it, behind the count of turns
@@ -59,6 +60,7 @@ pub record IsKept {A : Type 0} (P : Machine A → Type 0) : Type 0 where
   pub removed : (m : Machine A) (session : ℕ) → P m → P (record m { table = session_removed m.table session })
   pub ending : (m : Machine A) (i : ℕ) → P m → P (record m { table = destroy_begun m.table i })
   pub gone : (m : Machine A) (i : ℕ) → P m → P (instance_gone m i)
+  pub delivered : (m : Machine A) (op : Option ℕ) (os : Outputs) → P m → P (with_delivery m op os)
   pub objects : (m : Machine A) (i : ℕ) (ask : Ask) → P m → Goes (λ o. P (with_objects m o)) (object_resolution (objects_of m) i ask)
   pub crypto : (m : Machine A) (s : CryptoState) → IsOfStream m.crypto.random s.random → P m → P (with_crypto m s)
   pub made : (m : Machine A) (i object bits : ℕ) (random : ℕ → List ℕ) → P m → Goes (λ o. P (with_objects m o)) (generate_resolution (objects_of m) i object bits random)
@@ -192,15 +194,17 @@ module _ {A : Type 0} (P : Machine A → Type 0) (k : IsKept P) where
   after_session_kept m inst op code outputs h = either (is_left m.table inst.number) _ _ (destroying_kept m inst op _ h) (answered_kept m inst op code outputs h)
 
   returned_kept : (m : Machine A) (inst : Instance A) (op : Option ℕ) (stage : EntryPoint) (code : Code) (outs : Outs) → P m → Ends (after_return m inst op stage code outs)
-  returned_kept m inst op (stages.Create session ps places) code outs h =
+  returned_kept m inst op (stages.Create session client ps) code outs h =
       either (is_success code) _ _
-      (k.put (record m { queue = masked_again m.queue op }) (record inst { created = true; running = Some (start_begun op session ps places) }) (masked_kept m op h))
+      (k.put (record m { queue = masked_again m.queue op }) (record inst { created = true; running = Some (start_begun op session (given_params m.blocks client ps)) }) (masked_kept m op h))
       (k.gone m inst.number h)
   returned_kept m inst op (stages.Start session places) code outs h =
+      let os = shown_outputs places outs in let now = with_delivery m op os in
       either (is_success code) _ _
-      (answered_kept (record m { table = state_set m.table session Open }) inst op code _ (k.opened m session h))
-      (after_session_kept (record m { table = session_removed m.table session }) inst op code _ (k.removed m session h))
-  returned_kept m inst op (stages.Invoke session places) code outs h = answered_kept m inst op code _ h
+      (answered_kept (record now { table = state_set now.table session Open }) inst op code os (k.opened now session (k.delivered m op os h)))
+      (after_session_kept (record now { table = session_removed now.table session }) inst op code os (k.removed now session (k.delivered m op os h)))
+  returned_kept m inst op (stages.Invoke session places) code outs h =
+      let os = shown_outputs places outs in answered_kept (with_delivery m op os) inst op code os (k.delivered m op os h)
   returned_kept m inst op (stages.Stop session) code outs h = after_session_kept (record m { table = session_removed m.table session }) inst op _ _ (k.removed m session h)
   returned_kept m inst op (stages.Destroy reply) code outs h = k.gone m inst.number h
 

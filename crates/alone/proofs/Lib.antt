@@ -1,5 +1,6 @@
 pub mod Answered
 pub mod Aside
+pub mod BlocksChange
 pub mod Booted
 pub mod Born
 pub mod Called
@@ -10,6 +11,7 @@ pub mod Counted
 pub mod Dropped
 pub mod Each
 pub mod Ended
+pub mod Fitting
 pub mod Gone
 pub mod HighLemmas
 pub mod Kept
@@ -20,12 +22,15 @@ pub mod Marked
 pub mod Measure
 pub mod Opened
 pub mod Outcomes
+pub mod Room
 pub mod Sessions
+pub mod Shapes
 pub mod Sound
 pub mod Storage
 pub mod Streams
 pub mod Totals
 pub mod Turned
+pub mod Usable
 pub mod ValidMachines
 pub mod Within
 pub mod WithoutStore

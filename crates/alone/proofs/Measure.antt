@@ -29,7 +29,7 @@ turns_left (waits.Ask ask) more = more + 1
 
 -- behind create come start and destroy, and behind start and stop comes destroy
 abbrev pub turns_behind : EntryPoint → ℕ
-turns_behind (stages.Create session ps places) = 262148
+turns_behind (stages.Create session client ps) = 262148
 turns_behind (stages.Start session places) = 131074
 turns_behind (stages.Invoke session places) = 0
 turns_behind (stages.Stop session) = 131074
@@ -48,7 +48,7 @@ left_most (waits.Given given) k = omega arith
 left_most (waits.Ask ask) k = omega arith
 
 behind_most : (stage : EntryPoint) → turns_behind stage ≤ 262148
-behind_most (stages.Create session ps places) = omega arith
+behind_most (stages.Create session client ps) = omega arith
 behind_most (stages.Start session places) = omega arith
 behind_most (stages.Invoke session places) = omega arith
 behind_most (stages.Stop session) = omega arith

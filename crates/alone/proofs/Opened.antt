@@ -5,6 +5,7 @@ use Rattle.std.specs.List.{AllByRecursion, list_any}
 use Rattle.std.proofs.lemmas.Bool.{cases_Bool, cond_both, both_ways, eqb-true, and_parts, not-true}
 use Rattle.std.proofs.lemmas.Map.Views.{Contains-from_any}
 use Rattle.app_api.specs.declared.call.Call.{Call}
+use Rattle.app_api.specs.Calls.{call_references}
 use Rattle.app_api.specs.declared.call.Call.TheVariants as calls
 use Rattle.app_api.specs.declared.login.Login.{Login}
 use Rattle.app_api.specs.declared.param.Params.{Params}
@@ -85,7 +86,7 @@ module _ {A : Type 0} where
       → IsCalm after ys
       → IsSound (with_operation q client i session call) after ys
   sound_queued q t after xs ys client i session call h free few table numbers sessions stay there held_after runs_after calm =
-      let o : Operation = record { number = q.next; client = client; session = session; instance = i; progress = Waiting call } in
+      let o : Operation = record { number = q.next; client = client; session = session; instance = i; references = call_references call; progress = Waiting call } in
       record {
         queue = submitted_IsQueue q client i session call free few h.queue;
         table = table;

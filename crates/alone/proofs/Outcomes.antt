@@ -1,5 +1,5 @@
--- What comes of an ask leaves sessions and instances as they were, and of the operations no more than their masks; and it is an answer
--- only where fewer asks were made than may be.
+-- What comes of an ask leaves sessions, instances and blocks as they were, and of the operations no more than their masks; and it is an
+-- answer only where fewer asks were made than may be.
 use Rattle.std.proofs.Common.{ℕ, ◌≡◌, ◌<◌, Bool, true, false, nat_le, refl}
 use Rattle.std.proofs.lemmas.Bool.{cond_both, leb-false}
 use Rattle.tee_base.specs.declared.codes.Code.{Code}
@@ -36,6 +36,7 @@ pub record IsLike {A : Type 0} (m : Machine A) (made : ℕ) (after : Machine A) 
   pub queue : IsWithin m.queue after.queue
   pub table : after.table ≡ m.table
   pub instances : after.instances ≡ m.instances
+  pub blocks : after.blocks ≡ m.blocks
 
 abbrev pub OutcomeLike : {A : Type 0} → Machine A → ℕ → Outcome (Machine A) → Type 0
 OutcomeLike m made (Answered after answer) = IsLike m made after
@@ -48,7 +49,7 @@ ResolutionLike m made (ComesToStore kept if_served) = IsLike m made kept × Outc
 
 module _ {A : Type 0} (m : Machine A) (made : ℕ) where
   objects_like : (s : CryptoState) (o : Objects) → made < MAX_ASKS → IsLike m made (with_objects (with_crypto m s) o)
-  objects_like s o few = record { few = few; queue = within_same m.queue; table = refl; instances = refl }
+  objects_like s o few = record { few = few; queue = within_same m.queue; table = refl; instances = refl; blocks = refl }
 
   outcome_like : (s : CryptoState) (o : Outcome Objects) → made < MAX_ASKS → OutcomeLike m made (outcome_in (with_objects (with_crypto m s)) o)
   outcome_like s (Answered after answer) few = objects_like s after few
@@ -60,7 +61,7 @@ module _ {A : Type 0} (m : Machine A) (made : ℕ) where
   resolution_in_like s (ComesToStore kept if_served) few = (objects_like s kept few, outcome_like s if_served few)
 
   crypto_like : (s : CryptoState) → made < MAX_ASKS → IsLike m made (with_crypto m s)
-  crypto_like s few = record { few = few; queue = within_same m.queue; table = refl; instances = refl }
+  crypto_like s few = record { few = few; queue = within_same m.queue; table = refl; instances = refl; blocks = refl }
 
   told_like : (s : CryptoState) (t : Told) → made < MAX_ASKS → OutcomeLike m made (outcome_by (with_crypto m s) t)
   told_like s (told.Answered answer) few = crypto_like s few
@@ -83,14 +84,14 @@ module _ {A : Type 0} (m : Machine A) (made : ℕ) where
   return_like stage code outs = cond_both (is_misuse (places_at stage) outs) (Settled Panicked) (Settled (Returned code outs)) (ResolutionLike m made) (λ _. tt) (λ _. tt)
 
   mask_like : (r : ActiveEntry) (value : Bool) → made < MAX_ASKS → ResolutionLike m made (mask_resolution m r value)
-  mask_like r value few = record { few = few; queue = within_mask_for m.queue r.op value; table = refl; instances = refl }
+  mask_like r value few = record { few = few; queue = within_mask_for m.queue r.op value; table = refl; instances = refl; blocks = refl }
 
   entry_like : (r : ActiveEntry) (ask : Ask) → made < MAX_ASKS → ResolutionLike m made (entry_resolution m r ask)
   entry_like r (asked.Return code outs) few = return_like r.stage code outs
-  entry_like r asked.CancelFlag few = record { few = few; queue = within_same m.queue; table = refl; instances = refl }
+  entry_like r asked.CancelFlag few = record { few = few; queue = within_same m.queue; table = refl; instances = refl; blocks = refl }
   entry_like r asked.CancelMask few = mask_like r true few
   entry_like r asked.CancelUnmask few = mask_like r false few
-  entry_like r asked.ClientIdentity few = record { few = few; queue = within_same m.queue; table = refl; instances = refl }
+  entry_like r asked.ClientIdentity few = record { few = few; queue = within_same m.queue; table = refl; instances = refl; blocks = refl }
   entry_like r ask few = tt
 
   family_like : (i : ℕ) (r : ActiveEntry) (ask : Ask) (family : Family) → made < MAX_ASKS → ResolutionLike m made (resolution_in_family family m i r ask)
@@ -102,7 +103,7 @@ module _ {A : Type 0} (m : Machine A) (made : ℕ) where
   served_like : (serving : Serving) (ask : Ask) (c : Resolution (Machine A)) → ResolutionLike m made c → OutcomeLike m made (serve_outcome serving m ask c)
   served_like serving ask (Settled outcome) h = h
   served_like Serves ask (ComesToStore kept if_served) h = cond_both m.lost (refusal_with kept STORAGE_NOT_AVAILABLE) if_served (OutcomeLike m made) (λ _. h.0) (λ _. h.1)
-  served_like Fails ask (ComesToStore kept if_served) h = record { few = h.0.few; queue = h.0.queue; table = h.0.table; instances = h.0.instances }
+  served_like Fails ask (ComesToStore kept if_served) h = record { few = h.0.few; queue = h.0.queue; table = h.0.table; instances = h.0.instances; blocks = h.0.blocks }
   served_like Damaged ask (ComesToStore kept if_served) h = h.0
 
 module _ {A : Type 0} (m : Machine A) where

@@ -38,6 +38,10 @@ abbrev pub claim_of_call : ℕ → ℕ → Call → Option SessionFacts
 claim_of_call session i (calls.Open label login ps) = Some (facts session i Opening)
 claim_of_call session i (calls.Invoke label command ps) = None
 claim_of_call session i (calls.Close label) = Some (facts session i Closing)
+claim_of_call session i (calls.Share block flags size) = None
+claim_of_call session i (calls.Fill block at bytes) = None
+claim_of_call session i (calls.Show block) = None
+claim_of_call session i (calls.Unshare block) = None
 
 abbrev pub claim_of_progress : ℕ → ℕ → Progress → Option SessionFacts
 claim_of_progress session i (Waiting call) = claim_of_call session i call
@@ -48,7 +52,7 @@ claim_of o = claim_of_progress o.session o.instance o.progress
 
 -- what an entry holds that runs
 abbrev pub claim_of_stage : ℕ → EntryPoint → Option SessionFacts
-claim_of_stage i (stages.Create session ps places) = Some (facts session i Opening)
+claim_of_stage i (stages.Create session client ps) = Some (facts session i Opening)
 claim_of_stage i (stages.Start session places) = Some (facts session i Opening)
 claim_of_stage i (stages.Invoke session places) = None
 claim_of_stage i (stages.Stop session) = Some (facts session i Closing)
@@ -106,7 +110,7 @@ runs_by p os = total (λ o. weigh p (run_of o)) os
 
 -- what an entry may run: a destroy entry serves a close or another operation
 abbrev pub weigh_op : (Run → Bool) → ℕ → ℕ → EntryPoint → ℕ
-weigh_op p i op (stages.Create session ps places) = bit (p (run op i false))
+weigh_op p i op (stages.Create session client ps) = bit (p (run op i false))
 weigh_op p i op (stages.Start session places) = bit (p (run op i false))
 weigh_op p i op (stages.Invoke session places) = bit (p (run op i false))
 weigh_op p i op (stages.Stop session) = bit (p (run op i true))
@@ -128,7 +132,7 @@ runs_in p xs = total (λ x. weigh_in p x) xs
 
 -- where each run of an instance that the one lets pass is let pass by the other
 op_le : (p q : Run → Bool) (i op : ℕ) (stage : EntryPoint) → ((c : Run) → c.instance ≡ i → bit (p c) ≤ bit (q c)) → weigh_op p i op stage ≤ weigh_op q i op stage
-op_le p q i op (stages.Create session ps places) h = h (run op i false) refl
+op_le p q i op (stages.Create session client ps) h = h (run op i false) refl
 op_le p q i op (stages.Start session places) h = h (run op i false) refl
 op_le p q i op (stages.Invoke session places) h = h (run op i false) refl
 op_le p q i op (stages.Stop session) h = h (run op i true) refl
@@ -143,7 +147,7 @@ entry_le p q i None h = omega arith
 entry_le p q i (Some r) h = served_le p q i r.op r.stage h
 
 op_none : (i op : ℕ) (stage : EntryPoint) → weigh_op (λ c. false) i op stage ≡ 0
-op_none i op (stages.Create session ps places) = refl
+op_none i op (stages.Create session client ps) = refl
 op_none i op (stages.Start session places) = refl
 op_none i op (stages.Invoke session places) = refl
 op_none i op (stages.Stop session) = refl
@@ -223,6 +227,10 @@ call_fits : (session i : ℕ) (call : Call) → IfSome (claim_of_call session i 
 call_fits session i (calls.Open label login ps) = record { session_same = refl; instance_same = refl; state = refl }
 call_fits session i (calls.Invoke label command ps) = tt
 call_fits session i (calls.Close label) = record { session_same = refl; instance_same = refl; state = refl }
+call_fits session i (calls.Share block flags size) = tt
+call_fits session i (calls.Fill block at bytes) = tt
+call_fits session i (calls.Show block) = tt
+call_fits session i (calls.Unshare block) = tt
 
 progress_fits : (session i : ℕ) (progress : Progress) → IfSome (claim_of_progress session i progress) (Fits session i)
 progress_fits session i (Waiting call) = call_fits session i call
@@ -236,7 +244,7 @@ abbrev pub FitsIn : ℕ → SessionFacts → Type 0
 FitsIn i c = (c.instance ≡ i) × (is_held c.state ≡ true)
 
 stage_fits : (i : ℕ) (stage : EntryPoint) → IfSome (claim_of_stage i stage) (FitsIn i)
-stage_fits i (stages.Create session ps places) = (refl, refl)
+stage_fits i (stages.Create session client ps) = (refl, refl)
 stage_fits i (stages.Start session places) = (refl, refl)
 stage_fits i (stages.Invoke session places) = tt
 stage_fits i (stages.Stop session) = (refl, refl)

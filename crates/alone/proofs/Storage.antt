@@ -37,9 +37,10 @@ module _ {A : Type 0} where
   calls_same store doubt lost = record {
     at_once = λ m same. same;
     dead_gone = λ m session same. same;
-    waits = λ m client i session call same. same;
-    closes = λ m client i session call same. same;
-    opens = λ m client label login a call same. same;
+    waits = λ m client i session call usable same. same;
+    closes = λ m client i session call usable same. same;
+    opens = λ m client label login a call usable same. same;
+    shared = λ m blocks change same. same;
   }
 
   pub call_leaves_storage : (m : Machine A) (client : ℕ) (call : Call) → StorageStays m (after_call m client call).machine

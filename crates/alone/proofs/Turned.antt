@@ -14,6 +14,7 @@ use Rattle.op_queue.specs.declared.operation.Progress.{Progress}
 use Rattle.op_queue.specs.declared.operation.Progress.TheVariants.{Waiting, Running as Runs}
 use Rattle.op_queue.specs.Queue.{is_close, is_running, waits_for, first_waiting, as_running, begun_at, begun_of, after_begin}
 use Rattle.object_asks.specs.Asks.{Outcome, Answered, Returned, Panicked, Serving}
+use Rattle.shared_mem.specs.declared.block.Block.{Block}
 use Rattle.alone.specs.declared.active_entry.Instance.{Instance}
 use Rattle.alone.specs.declared.active_entry.ActiveEntry.{ActiveEntry}
 use Rattle.alone.specs.declared.active_entry.EntryPoint.{EntryPoint}
@@ -21,9 +22,11 @@ use Rattle.alone.specs.declared.active_entry.EntryPoint.TheVariants as stages
 use Rattle.alone.specs.declared.active_entry.Waits.{Waits}
 use Rattle.alone.specs.declared.active_entry.Waits.TheVariants as waits
 use Rattle.alone.specs.Asks.{resolution_after, mask_after, mask_noted}
+use Rattle.alone.specs.Blocks.{given_params}
 use Rattle.alone.specs.Machine.{Machine, is_number, instance_at, put_instance, with_instance}
+use Rattle.alone.specs.Places.{places_of, shown_outputs}
 use Rattle.alone.specs.Step.{after_ask, begun_with, after_destroy_begins, first_entry, is_success, masked_again, no_replies, after_return, serve_outcome, start_begun, turn_counted, turned_as}
-use Rattle.alone.specs.Step.{turned_at, turned_by, went_on}
+use Rattle.alone.specs.Step.{turned_at, turned_by, went_on, with_delivery}
 use Rattle.alone.proofs.Totals.{bit, found_passes}
 use Rattle.alone.proofs.Each.{each_map}
 use Rattle.alone.proofs.Lists.{found_number, find_put}
@@ -36,8 +39,8 @@ use Rattle.alone.proofs.Within.{within_again}
 use Rattle.alone.proofs.Outcomes.{OutcomeLike, ask_like}
 use Rattle.alone.proofs.Ended.{IsNearer, IsTurned, begins_destroy, ends_closed, ends_failed, ends_invoke, ends_open, fails, nearer_within}
 
-first_left : (created : Bool) (op session : ℕ) (call : Call) → turns_for (first_entry created op session call) ≤ 393222
-first_left created op session call = turns_most (first_entry created op session call)
+first_left : (blocks : List Block) (created : Bool) (op client session : ℕ) (call : Call) → turns_for (first_entry blocks created op client session call) ≤ 393222
+first_left blocks created op client session call = turns_most (first_entry blocks created op client session call)
 
 waits_no_more : (i : ℕ) (os : List Operation) (o : Operation) → find (waits_for i) os ≡ Some o → waiting i (map (as_running o.number) os) + 1 ≤ waiting i os
 waits_no_more i os o e =
@@ -48,10 +51,10 @@ waits_no_more i os o e =
     never false = refl
 
 -- create and start serve alike
-start_serves : (p : Run → Bool) (i : ℕ) (op : Option ℕ) (stage : EntryPoint) (session : ℕ) (ps : _) (places : _) → stage ≡ stages.Create session ps places
+start_serves : (p : Run → Bool) (i : ℕ) (op : Option ℕ) (stage : EntryPoint) (session client : ℕ) (ps : _) (places : _) → stage ≡ stages.Create session client ps
     → weigh_served p i op stage ≤ weigh_served p i op (stages.Start session places)
-start_serves p i None stage session ps places e = omega arith
-start_serves p i (Some op) stage session ps places e = omega (arith, ap (weigh_served p i (Some op)) e)
+start_serves p i None stage session client ps places e = omega arith
+start_serves p i (Some op) stage session client ps places e = omega (arith, ap (weigh_served p i (Some op)) e)
 
 module _ {A : Type 0} where
   -- ---- an instance goes on
@@ -92,18 +95,19 @@ module _ {A : Type 0} where
 
   begins_call : (m : Machine A) (inst : Instance A) (o : Operation) (call : Call) → IsSoundMachine m → find (is_number inst.number) m.instances ≡ Some inst
       → inst.running ≡ None → first_waiting m.queue inst.number ≡ Some o → o.progress ≡ Waiting call
-      → IsNearer inst.number m.queue m.instances (after_begin m.queue (Some o)) m.table (put_instance (record inst { running = Some (first_entry inst.created o.number o.session call) }) m.instances)
+      → IsNearer inst.number m.queue m.instances (after_begin m.queue (Some o)) m.table
+      (put_instance (record inst { running = Some (first_entry m.blocks inst.created o.number o.client o.session call) }) m.instances)
   begins_call m inst o call h found idle first waits_so =
       let i = inst.number in
-      let new : Instance A = record inst { running = Some (first_entry inst.created o.number o.session call) } in
+      let new : Instance A = record inst { running = Some (first_entry m.blocks inst.created o.number o.client o.session call) } in
       let before = ap left_in found in
       let after = ap left_in (find_put i new inst m.instances refl found) in
       record {
-        sound = sound_begun m.queue m.table m.instances inst o call h found idle first waits_so;
+        sound = sound_begun m.blocks m.queue m.table m.instances inst o call h found idle first waits_so;
         next = refl;
         owner = λ op j owned. each_map (IsOf op j) (IsOf op j) (as_running o.number) m.queue.operations
             (λ x here. cond_both (x.number == o.number) (record x { progress = Runs (is_close x.progress) false true }) x (IsOf op j) (λ _. here) (λ _. here)) owned;
-        less = λ _. omega (arith, before, after, ap left_of idle, first_left inst.created o.number o.session call, waits_no_more i m.queue.operations o first);
+        less = λ _. omega (arith, before, after, ap left_of idle, first_left m.blocks inst.created o.number o.client o.session call, waits_no_more i m.queue.operations o first);
       }
 
   begins_at : (m : Machine A) (inst : Instance A) (o : Operation) → IsSoundMachine m → find (is_number inst.number) m.instances ≡ Some inst
@@ -134,33 +138,37 @@ module _ {A : Type 0} where
 
   creates : (m : Machine A) (inst : Instance A) (r : ActiveEntry) (ask : Ask) → IsSoundMachine m → find (is_number inst.number) m.instances ≡ Some inst → inst.running ≡ Some r
       → r.waits ≡ waits.Ask ask
-      → (op : Option ℕ) (session : ℕ) (ps : _) (places : _) → r.op ≡ op → r.stage ≡ stages.Create session ps places
-      → IsTurned inst.number m (no_replies (with_instance (record m { queue = masked_again m.queue op }) (record inst { created = true; running = Some (start_begun op session ps places) })))
-  creates m inst r ask h found running w op session ps places serves e =
+      → (op : Option ℕ) (session client : ℕ) (ps given : _) → r.op ≡ op → r.stage ≡ stages.Create session client ps
+      → IsTurned inst.number m (no_replies (with_instance (record m { queue = masked_again m.queue op }) (record inst { created = true; running = Some (start_begun op session given) })))
+  creates m inst r ask h found running w op session client ps given serves e =
       let i = inst.number in
-      let new : Instance A = record inst { created = true; running = Some (start_begun op session ps places) } in
+      let new : Instance A = record inst { created = true; running = Some (start_begun op session given) } in
       let before : left_of inst.running ≡ 2 * (65536 - r.asks) + 1 + 262148 = ap left_of running ∙ ap
       (λ v. turns_left v (2 * (65536 - r.asks)) + turns_behind r.stage) w ∙ ap (λ s. 2 * (65536 - r.asks) + 1 + turns_behind s) e in
       nearer_within i m.queue m.instances m.queue (masked_again m.queue op) m.table (put_instance new m.instances) (within_again m.queue op)
       (goes_on m inst new h found
       (sym (ap (claim_of_entry i) running ∙ ap (claim_of_stage i) e))
-      (λ p. omega (arith, ap (weigh_entry p i) running, ap (λ o. weigh_served p i o r.stage) serves, start_serves p i op r.stage session ps places e))
+      (λ p. omega (arith, ap (weigh_entry p i) running, ap (λ o. weigh_served p i o r.stage) serves, start_serves p i op r.stage session client ps (places_of given) e))
       (omega arith)
       (omega (arith, before)))
 
   returns : (m : Machine A) (inst : Instance A) (r : ActiveEntry) (ask : Ask) → IsSoundMachine m → find (is_number inst.number) m.instances ≡ Some inst → inst.running ≡ Some r
       → r.waits ≡ waits.Ask ask
       → (op : Option ℕ) (stage : EntryPoint) (code : Code) (outs : Outs) → r.op ≡ op → r.stage ≡ stage → IsTurned inst.number m (after_return m inst op stage code outs)
-  returns m inst r ask h found running w op (stages.Create session ps places) code outs serves e =
+  returns m inst r ask h found running w op (stages.Create session client ps) code outs serves e =
       cond_both (is_success code) _ _ (IsTurned inst.number m)
-      (λ _. creates m inst r ask h found running w op session ps places serves e)
+      (λ _. creates m inst r ask h found running w op session client ps (given_params m.blocks client ps) serves e)
       (λ _. fails m inst.number h)
   returns m inst r ask h found running w op (stages.Start session places) code outs serves e =
       let claim : claim_of_stage inst.number r.stage ≡ Some (facts session inst.number Opening) = ap (claim_of_stage inst.number) e in
+      let os = shown_outputs places outs in
+      let now : Machine A = with_delivery m op os in
       cond_both (is_success code) _ _ (IsTurned inst.number m)
-      (λ _. ends_open m inst r op _ _ (facts session inst.number Opening) h found running serves claim)
-      (λ _. ends_failed m inst r session places op _ _ h found running serves e)
-  returns m inst r ask h found running w op (stages.Invoke session places) code outs serves e = ends_invoke m inst r op _ _ h found running serves (ap (claim_of_stage inst.number) e)
+      (λ _. ends_open now inst r op code os (facts session inst.number Opening) h found running serves claim)
+      (λ _. ends_failed now inst r session places op code os h found running serves e)
+  returns m inst r ask h found running w op (stages.Invoke session places) code outs serves e =
+      let os = shown_outputs places outs in
+      let now : Machine A = with_delivery m op os in ends_invoke now inst r op code os h found running serves (ap (claim_of_stage inst.number) e)
   returns m inst r ask h found running w op (stages.Stop session) code outs serves e = ends_closed m inst r session op _ _ h found running serves e
   returns m inst r ask h found running w op (stages.Destroy reply) code outs serves e = fails m inst.number h
 

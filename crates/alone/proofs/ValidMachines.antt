@@ -92,6 +92,7 @@ module _ {A : Type 0} where
     removed = λ m session fine. fine;
     ending = λ m i fine. over_instances m m.instances _ fine (fine.instances ∙ sym (ending_numbers i m.table.slots));
     gone = gone_fine;
+    delivered = λ m op os fine. fine;
     objects = λ m i ask fine. resolution_fine m (object_resolution (objects_of m) i ask) fine (resolution_sound (objects_of m) i ask fine.objects);
     crypto = λ m s stream fine. over_crypto m s fine stream;
     made = λ m i object bits random fine. resolution_fine m (generate_resolution (objects_of m) i object bits random) fine (generate_sound (objects_of m) i object bits random fine.objects);
@@ -101,10 +102,11 @@ module _ {A : Type 0} where
   calls_fine = record {
     at_once = λ m fine. fine;
     dead_gone = λ m session fine. fine;
-    waits = λ m client i session call fine. fine;
-    closes = λ m client i session call fine. fine;
-    opens = λ m client label login a call fine.
+    waits = λ m client i session call usable fine. fine;
+    closes = λ m client i session call usable fine. fine;
+    opens = λ m client label login a call usable fine.
         over_instances m _ _ fine (numbers_entered a.new_instance m.instances m.table.slots (new_instance m.template a.instance) (record { number = a.instance; ending = false }) fine.instances refl);
+    shared = λ m blocks change fine. fine;
   }
 
   step_fine : (behaviour : Behaviour A) (m : Machine A) (event : Event) → IsFine m → IsFine (step behaviour m event).machine

@@ -38,7 +38,7 @@ use Rattle.alone.specs.Laws.{step_with_store, with_store}
 use Rattle.alone.specs.Machine.{Machine, instance_at}
 use Rattle.alone.specs.Places.{shown_outputs, is_misuse, places_at}
 use Rattle.alone.specs.Step.{Stepped, after_ask, after_session, after_answer, begun_with, after_destroy_begins, is_success, needs_store, of_instance, of_running, of_waits}
-use Rattle.alone.specs.Step.{no_replies, reaches, after_return, serve_outcome, turn_counted, after_turn, turned_as, turned_at, turned_by, went_on}
+use Rattle.alone.specs.Step.{no_replies, reaches, after_return, serve_outcome, turn_counted, after_turn, turned_as, turned_at, turned_by, went_on, with_delivery}
 
 -- the same objects over the other store
 abbrev restored : Store → Objects → Objects
@@ -89,12 +89,14 @@ module _ {A : Type 0} (store : Store) where
 
   returned_over : (m : Machine A) (inst : Instance A) (op : Option ℕ) (stage : EntryPoint) (code : Code) (outs : Outs) →
       after_return (with_store store m) inst op stage code outs ≡ step_with_store store (after_return m inst op stage code outs)
-  returned_over m inst op (stages.Create session ps places) code outs = either (is_success code) _ _ _ _ refl refl
+  returned_over m inst op (stages.Create session client ps) code outs = either (is_success code) _ _ _ _ refl refl
   returned_over m inst op (stages.Start session places) code outs =
+      let os = shown_outputs places outs in let now = with_delivery m op os in
       either (is_success code) _ _ _ _
-      (answered_over (record m { table = state_set m.table session Open }) inst op code (shown_outputs places outs))
-      (after_session_over (record m { table = session_removed m.table session }) inst op code (shown_outputs places outs))
-  returned_over m inst op (stages.Invoke session places) code outs = answered_over m inst op code (shown_outputs places outs)
+      (answered_over (record now { table = state_set now.table session Open }) inst op code os)
+      (after_session_over (record now { table = session_removed now.table session }) inst op code os)
+  returned_over m inst op (stages.Invoke session places) code outs =
+      let os = shown_outputs places outs in answered_over (with_delivery m op os) inst op code os
   returned_over m inst op (stages.Stop session) code outs = after_session_over (record m { table = session_removed m.table session }) inst op _ _
   returned_over m inst op (stages.Destroy reply) code outs = refl
 

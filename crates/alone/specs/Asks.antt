@@ -70,7 +70,7 @@ mask_noted r ask = record { op = r.op; stage = r.stage; waits = r.waits; asks = 
 
 -- the login of the session for which an entry runs; there is none at a destroy entry, before which the session is gone
 abbrev pub login_at : Table → EntryPoint → Option Login
-login_at t (stages.Create session ps places) = login_in t session
+login_at t (stages.Create session client ps) = login_in t session
 login_at t (stages.Start session places) = login_in t session
 login_at t (stages.Invoke session places) = login_in t session
 login_at t (stages.Stop session) = login_in t session

@@ -1,5 +1,6 @@
 pub mod Answering
 pub mod Asks
+pub mod Blocks
 pub mod Crypto
 pub mod Families
 pub mod InList
@@ -12,5 +13,6 @@ pub mod Marks
 pub mod Places
 pub mod Replies
 pub mod Runs
+pub mod Sharing
 pub mod Step
 pub mod Valid

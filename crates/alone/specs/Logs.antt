@@ -5,7 +5,7 @@ use Rattle.tee_base.specs.declared.limits.TheConstants.{MAX_LOG_BYTES, MAX_LOG_E
 use Rattle.app_api.specs.declared.call.Call.{Call}
 use Rattle.app_api.specs.declared.call.Call.TheVariants as calls
 use Rattle.app_api.specs.declared.param.Param.{Param}
-use Rattle.app_api.specs.declared.param.Param.TheVariants.{Nothing, ValueIn, ValueOut, ValueInOut, MemIn, MemOut, MemInOut}
+use Rattle.app_api.specs.declared.param.Param.TheVariants.{Nothing, ValueIn, ValueOut, ValueInOut, MemIn, MemOut, MemInOut, Whole, Part}
 use Rattle.app_api.specs.declared.param.Params.{Params}
 use Rattle.alone.specs.declared.reply.Reply.{Reply}
 use Rattle.alone.specs.Machine.{Machine}
@@ -64,16 +64,22 @@ bytes_of (ValueInOut a b) = 0
 bytes_of (MemIn bytes) = length bytes
 bytes_of (MemOut room) = 0
 bytes_of (MemInOut bytes) = length bytes
+bytes_of (Whole block) = 0
+bytes_of (Part block way at size) = 0
 
 -- those of four parameters
 abbrev pub bytes_of_params : Params → ℕ
 bytes_of_params ps = bytes_of ps.p0 + bytes_of ps.p1 + bytes_of ps.p2 + bytes_of ps.p3
 
--- those of a call
+-- those of a call: what is filled into a block counts too
 abbrev pub bytes_of_call : Call → ℕ
 bytes_of_call (calls.Open label login ps) = bytes_of_params ps
 bytes_of_call (calls.Invoke label command ps) = bytes_of_params ps
 bytes_of_call (calls.Close label) = 0
+bytes_of_call (calls.Share block flags size) = 0
+bytes_of_call (calls.Fill block at bytes) = length bytes
+bytes_of_call (calls.Show block) = 0
+bytes_of_call (calls.Unshare block) = 0
 
 -- those of an event
 abbrev pub bytes_of_event : Event → ℕ

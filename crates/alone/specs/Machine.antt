@@ -3,6 +3,7 @@ use Rattle.std.specs.Prelude.{ℕ, ◌==◌, Bool, false, List, [], ◌∷◌, O
 use Rattle.app_api.specs.declared.host.Host.{Host}
 use Rattle.instances.specs.Instances.{Table, no_instances}
 use Rattle.op_queue.specs.Queue.{Queue, empty_queue}
+use Rattle.shared_mem.specs.declared.block.Block.{Block}
 use Rattle.store_api.specs.Stores.{Store}
 use Rattle.object_asks.specs.Asks.{Objects}
 use Rattle.object_asks.specs.Held.{Held, nothing_held}
@@ -29,6 +30,8 @@ pub record Machine (A : Type 0) : Type 0 where
   pub store : Store
   pub lost : Bool
   pub in_doubt : Option Store
+  -- the blocks of memory that its clients share with it
+  pub blocks : List Block
   -- handles, keys in memory and enumerators of all instances
   pub held : Held
   -- crypto operations of all instances, and the stream of random bytes
@@ -48,6 +51,7 @@ start host index seed store = record {
   store = store;
   lost = false;
   in_doubt = None;
+  blocks = [];
   held = nothing_held;
   crypto = no_operations seed index 0;
 }

@@ -16,7 +16,7 @@ use Rattle.alone.specs.declared.reply.Shown.{Shown}
 use Rattle.alone.specs.declared.reply.Shown.TheVariants as shown
 use Rattle.alone.specs.declared.reply.Outputs.{Outputs}
 
--- the output position that a parameter is
+-- the output position that a parameter is. No entry is given a reference
 abbrev pub place_of : Param → OutputSlot
 place_of params.Nothing = places.Nothing
 place_of (params.ValueIn a b) = places.Nothing
@@ -25,6 +25,8 @@ place_of (params.ValueInOut a b) = places.ValueInOut a b
 place_of (params.MemIn bytes) = places.Nothing
 place_of (params.MemOut room) = places.Mem room
 place_of (params.MemInOut bytes) = places.MemInOut bytes
+place_of (params.Whole block) = places.Nothing
+place_of (params.Part block way at size) = places.Nothing
 
 -- the output positions of a call's four parameters
 abbrev pub places_of : Params → Places
@@ -94,7 +96,7 @@ is_misuse ps os =
 
 -- the output positions of the entry that runs
 abbrev pub places_at : EntryPoint → Places
-places_at (stages.Create session ps places) = no_places
+places_at (stages.Create session client ps) = no_places
 places_at (stages.Start session ps) = ps
 places_at (stages.Invoke session ps) = ps
 places_at (stages.Stop session) = no_places

@@ -17,7 +17,7 @@ use Rattle.app_api.specs.declared.ask.Entry.{Entry}
 use Rattle.app_api.specs.declared.ask.Entry.TheVariants as entries
 use Rattle.app_api.specs.declared.ask.Ask.{Ask}
 use Rattle.app_api.specs.declared.out.Outs.{Outs}
-use Rattle.app_api.specs.Params.{first_oversized}
+use Rattle.app_api.specs.Params.{first_oversized, no_params, references_of}
 use Rattle.instances.specs.declared.instances.Admission.{Admission}
 use Rattle.instances.specs.declared.instances.Refusal.{Refusal}
 use Rattle.instances.specs.declared.session.SessionFacts.{SessionFacts}
@@ -31,11 +31,10 @@ use Rattle.op_queue.specs.declared.operation.Cancelled.TheVariants.{Dropped, Fla
 use Rattle.op_queue.specs.declared.operation.Progress.{Progress}
 use Rattle.op_queue.specs.declared.operation.Progress.TheVariants as progress
 use Rattle.op_queue.specs.Queue.{Queue, is_full, with_operation, with_number_used, first_waiting, begun_at, after_begin, without, operation_of}
-use Rattle.op_queue.specs.Queue.{facts_of as operation_facts, cancel_of, after_cancel, mask_set, without_operations_of, without_operations}
+use Rattle.op_queue.specs.Queue.{facts_of as operation_facts, cancel_of, after_cancel, is_named, mask_set, without_operations_of, without_operations}
 use Rattle.operation_asks.specs.Asks.{instance_ended, no_operations}
 use Rattle.alone.specs.declared.reply.Outputs.{Outputs}
 use Rattle.alone.specs.declared.reply.Reply.{Reply}
-use Rattle.alone.specs.declared.places.Places.{Places}
 use Rattle.alone.specs.declared.active_entry.Instance.{Instance}
 use Rattle.alone.specs.declared.active_entry.ActiveEntry.{ActiveEntry}
 use Rattle.alone.specs.declared.active_entry.EntryPoint.{EntryPoint}
@@ -47,7 +46,10 @@ use Rattle.object_asks.specs.Asks.{Outcome, Answered, Returned, Panicked, Resolu
 use Rattle.object_asks.specs.Asks.{Damaged, came_of, changes_store, comes_to_store, may_need_store, refusal_with}
 use Rattle.tee_base.specs.declared.codes.TheConstants.Code.{SUCCESS, BAD_PARAMETERS, BAD_STATE, BUSY, OUT_OF_MEMORY, STORAGE_NOT_AVAILABLE, TARGET_DEAD}
 use Rattle.object_asks.specs.Held.{nothing_held, instance_closed}
+use Rattle.shared_mem.specs.declared.block.Block.{Block}
+use Rattle.shared_mem.specs.Blocks.{share_of, fill_of, show_of, unshare_of}
 use Rattle.alone.specs.Asks.{cancel, resolution_after, mask_noted}
+use Rattle.alone.specs.Blocks.{block_outputs, delivered_for, given_params, references_refusal, served_by}
 use Rattle.alone.specs.Machine.{Machine, is_number, instance_at, with_instance}
 use Rattle.alone.specs.Places.{places_of, shown_outputs}
 use Rattle.alone.specs.Replies.{no_outputs}
@@ -130,13 +132,19 @@ abbrev pub opened_as : {A : Type 0} → Machine A → ℕ → ℕ → Login → 
 opened_as m client label login ps (Err refusal) = answered_at_once m refusal.code refusal.origin
 opened_as m client label login ps (Ok a) = after_queueing (after_admission m client label login a) client a.instance a.session (calls.Open label login ps)
 
--- an open: too large a parameter, a label in use, a full queue, no admission, or it waits
+-- an open, by what its references are refused with: that refusal, a label in use, a full queue, no admission, or it waits
+abbrev pub opened_with : {A : Type 0} → Machine A → ℕ → ℕ → Login → Params → Option Code → Stepped A
+opened_with m client label login ps (Some code) = answered_at_once m code Api
+opened_with m client label login ps None =
+    if is_some (facts_of_label m client label) then answered_at_once m BAD_STATE Api
+    else if is_full m.queue then answered_at_once m BUSY Tee
+    else opened_as m client label login ps (admission_of m.table client label)
+
+-- an open: too large a parameter, a reference that may not be used, a label in use, a full queue, no admission, or it waits
 abbrev pub called_open : {A : Type 0} → Machine A → ℕ → ℕ → Login → Params → Stepped A
 called_open m client label login ps =
     if is_some (first_oversized ps) then answered_at_once m BAD_PARAMETERS Api
-    else if is_some (facts_of_label m client label) then answered_at_once m BAD_STATE Api
-    else if is_full m.queue then answered_at_once m BUSY Tee
-    else opened_as m client label login ps (admission_of m.table client label)
+    else opened_with m client label login ps (references_refusal m.blocks client (references_of ps))
 
 -- an invoke in a session of this state: it waits where the session is open and the queue has room, and else is refused at once
 abbrev pub invoked_at : {A : Type 0} → Machine A → ℕ → Call → SessionFacts → SessionState → Stepped A
@@ -150,11 +158,16 @@ abbrev pub invoked_in : {A : Type 0} → Machine A → ℕ → Call → Option S
 invoked_in m client call None = answered_at_once m BAD_STATE Api
 invoked_in m client call (Some s) = invoked_at m client call s s.state
 
--- an invoke: too large a parameter, no open or dead session, a dead one, a full queue, or it waits
+-- an invoke, by what its references are refused with
+abbrev pub invoked_with : {A : Type 0} → Machine A → ℕ → ℕ → ℕ → Params → Option Code → Stepped A
+invoked_with m client label command ps (Some code) = answered_at_once m code Api
+invoked_with m client label command ps None = invoked_in m client (calls.Invoke label command ps) (facts_of_label m client label)
+
+-- an invoke: too large a parameter, a reference that may not be used, no open or dead session, a dead one, a full queue, or it waits
 abbrev pub called_invoke : {A : Type 0} → Machine A → ℕ → ℕ → ℕ → Params → Stepped A
 called_invoke m client label command ps =
     if is_some (first_oversized ps) then answered_at_once m BAD_PARAMETERS Api
-    else invoked_in m client (calls.Invoke label command ps) (facts_of_label m client label)
+    else invoked_with m client label command ps (references_refusal m.blocks client (references_of ps))
 
 -- a close of a session of this state: an open one's waits, a dead one goes at once, and any other is refused at once
 abbrev pub closed_at : {A : Type 0} → Machine A → ℕ → ℕ → SessionFacts → SessionState → Stepped A
@@ -168,11 +181,29 @@ abbrev pub closed_in : {A : Type 0} → Machine A → ℕ → ℕ → Option Ses
 closed_in m client label None = answered_at_once m BAD_STATE Api
 closed_in m client label (Some s) = closed_at m client label s s.state
 
+-- a call about shared memory that leaves these blocks or is refused, either answered by the client's own library
+abbrev pub memory_done : {A : Type 0} → Machine A → Result (List Block) Code → Stepped A
+memory_done m (Ok blocks) = answered_at_once (record m { blocks = blocks }) SUCCESS Api
+memory_done m (Err code) = answered_at_once m code Api
+
+-- a call to be shown a block of these bytes, which are its first output, or that is refused
+abbrev pub block_shown : {A : Type 0} → Machine A → Result (List ℕ) Code → Stepped A
+block_shown m (Err code) = answered_at_once m code Api
+block_shown m (Ok bytes) = record {
+  machine = record m { queue = with_number_used m.queue };
+  replies = reply_of m.queue.next SUCCESS Api (block_outputs bytes) ∷ [];
+  instance = 0;
+}
+
 -- what a client's call does
 unfoldable pub after_call : {A : Type 0} → Machine A → ℕ → Call → Stepped A
 after_call m client (calls.Open label login ps) = called_open m client label login ps
 after_call m client (calls.Invoke label command ps) = called_invoke m client label command ps
 after_call m client (calls.Close label) = closed_in m client label (facts_of_label m client label)
+after_call m client (calls.Share block flags size) = memory_done m (share_of m.blocks client block flags size)
+after_call m client (calls.Fill block at bytes) = memory_done m (fill_of m.blocks client block at bytes)
+after_call m client (calls.Show block) = block_shown m (show_of m.blocks client block)
+after_call m client (calls.Unshare block) = memory_done m (unshare_of m.blocks client block (is_named m.queue client block))
 
 -- ---- cancellation
 
@@ -190,6 +221,10 @@ abbrev pub open_of_call : ℕ → InstanceNumber → Call → Option (ℕ × ℕ
 open_of_call session i (calls.Open label login ps) = Some (session, i)
 open_of_call session i (calls.Invoke label command ps) = None
 open_of_call session i (calls.Close label) = None
+open_of_call session i (calls.Share block flags size) = None
+open_of_call session i (calls.Fill block at bytes) = None
+open_of_call session i (calls.Show block) = None
+open_of_call session i (calls.Unshare block) = None
 
 -- the same of an operation, by how far it is: none where it runs
 abbrev pub open_of_progress : ℕ → InstanceNumber → Progress → Option (ℕ × ℕ)
@@ -224,20 +259,33 @@ after_cancellation m op =
 abbrev pub entry_begun : Option ℕ → EntryPoint → Entry → ActiveEntry
 entry_begun op stage entry = record { op = op; stage = stage; waits = waits.Given (givens.Entry entry); asks = 0; masked = true }
 
--- the start entry of this session begins
-abbrev pub start_begun : Option ℕ → ℕ → Params → Places → ActiveEntry
-start_begun op session ps places = entry_begun op (stages.Start session places) (entries.Start session ps)
+-- the start entry of this session begins, with these parameters
+abbrev pub start_begun : Option ℕ → ℕ → Params → ActiveEntry
+start_begun op session given = entry_begun op (stages.Start session (places_of given)) (entries.Start session given)
+
+-- an invoke entry of this session begins, with these parameters
+abbrev pub invoke_begun : Option ℕ → ℕ → ℕ → Params → ActiveEntry
+invoke_begun op session command given = entry_begun op (stages.Invoke session (places_of given)) (entries.Invoke session command given)
+
+-- the stop entry of this session begins
+abbrev pub stop_begun : Option ℕ → ℕ → ActiveEntry
+stop_begun op session = entry_begun op (stages.Stop session) (entries.Stop session)
 
 -- the destroy entry, and the reply that is given when it has returned
 abbrev pub destroy_begins : Option ℕ → Option Reply → ActiveEntry
 destroy_begins op reply = entry_begun op (stages.Destroy reply) entries.Destroy
 
--- the first entry of an operation: an open's is create where the instance never ran it
-abbrev pub first_entry : Bool → ℕ → ℕ → Call → ActiveEntry
-first_entry false op session (calls.Open label login ps) = entry_begun (Some op) (stages.Create session ps (places_of ps)) entries.Create
-first_entry true op session (calls.Open label login ps) = start_begun (Some op) session ps (places_of ps)
-first_entry created op session (calls.Invoke label command ps) = entry_begun (Some op) (stages.Invoke session (places_of ps)) (entries.Invoke session command ps)
-first_entry created op session (calls.Close label) = entry_begun (Some op) (stages.Stop session) (entries.Stop session)
+-- the first entry of an operation: an open's is create where the instance never ran it. References become bytes when a start or an invoke
+-- entry begins. A call about shared memory is none of an operation; its rows are that of an invoke without parameters
+abbrev pub first_entry : List Block → Bool → ℕ → ℕ → ℕ → Call → ActiveEntry
+first_entry blocks false op client session (calls.Open label login ps) = entry_begun (Some op) (stages.Create session client ps) entries.Create
+first_entry blocks true op client session (calls.Open label login ps) = start_begun (Some op) session (given_params blocks client ps)
+first_entry blocks created op client session (calls.Invoke label command ps) = invoke_begun (Some op) session command (given_params blocks client ps)
+first_entry blocks created op client session (calls.Close label) = stop_begun (Some op) session
+first_entry blocks created op client session (calls.Share block flags size) = invoke_begun (Some op) session 0 no_params
+first_entry blocks created op client session (calls.Fill block at bytes) = invoke_begun (Some op) session 0 no_params
+first_entry blocks created op client session (calls.Show block) = invoke_begun (Some op) session 0 no_params
+first_entry blocks created op client session (calls.Unshare block) = invoke_begun (Some op) session 0 no_params
 
 -- cancellation is masked again for a further entry of the same operation
 abbrev pub masked_again : Queue → Option ℕ → Queue
@@ -257,7 +305,7 @@ idle m inst = if inst.created && is_left m.table inst.number then after_destroy_
 -- the instance begins this operation, and is idle where there is none
 abbrev pub begun_with : {A : Type 0} → Machine A → Instance A → Option Begun → Machine A
 begun_with m inst None = idle m inst
-begun_with m inst (Some b) = with_instance m (record inst { running = Some (first_entry inst.created b.op b.session b.call) })
+begun_with m inst (Some b) = with_instance m (record inst { running = Some (first_entry m.blocks inst.created b.op b.client b.session b.call) })
 
 -- the instance's waiting operation with the least number begins, if there is one
 abbrev pub with_next_begun : {A : Type 0} → Machine A → Instance A → Machine A
@@ -295,17 +343,28 @@ after_session m inst op code outputs =
     then no_replies (after_destroy_begins m inst op (option_map (λ n. reply_of n code App outputs) op))
     else after_answer m inst op code outputs
 
+-- what is shown of an entry's outputs is written into the blocks that the call of its operation refers to
+abbrev pub with_delivery : {A : Type 0} → Machine A → Option ℕ → Outputs → Machine A
+with_delivery m op os = record m { blocks = delivered_for (served_by m.queue op) os m.blocks }
+
+-- a start entry returned, and its outputs are shown so: the session is open and its operation answered, or the session is gone
+abbrev pub after_start : {A : Type 0} → Machine A → Instance A → Option ℕ → ℕ → Code → Outputs → Stepped A
+after_start m inst op session code os =
+    if is_success code
+    then after_answer (record m { table = state_set m.table session Open }) inst op code os
+    else after_session (record m { table = session_removed m.table session }) inst op code os
+
 -- what a return does, by the entry that returns
 abbrev pub after_return : {A : Type 0} → Machine A → Instance A → Option ℕ → EntryPoint → Code → Outs → Stepped A
-after_return m inst op (stages.Create session ps places) code outs =
+after_return m inst op (stages.Create session client ps) code outs =
     if is_success code
-    then no_replies (with_instance (record m { queue = masked_again m.queue op }) (record inst { created = true; running = Some (start_begun op session ps places) }))
+    then no_replies (with_instance (record m { queue = masked_again m.queue op })
+    (record inst { created = true; running = Some (start_begun op session (given_params m.blocks client ps)) }))
     else torn_down m inst.number code App
 after_return m inst op (stages.Start session places) code outs =
-    if is_success code
-    then after_answer (record m { table = state_set m.table session Open }) inst op code (shown_outputs places outs)
-    else after_session (record m { table = session_removed m.table session }) inst op code (shown_outputs places outs)
-after_return m inst op (stages.Invoke session places) code outs = after_answer m inst op code (shown_outputs places outs)
+    let os = shown_outputs places outs in after_start (with_delivery m op os) inst op session code os
+after_return m inst op (stages.Invoke session places) code outs =
+    let os = shown_outputs places outs in after_answer (with_delivery m op os) inst op code os
 after_return m inst op (stages.Stop session) code outs = after_session (record m { table = session_removed m.table session }) inst op SUCCESS no_outputs
 after_return m inst op (stages.Destroy reply) code outs = record { machine = instance_gone m inst.number; replies = option_to_list reply; instance = 0 }
 
@@ -416,7 +475,7 @@ abbrev pub store_found : Bool → Store → Option Store → Store
 store_found took store None = store
 store_found took store (Some doubt) = if took then doubt else store
 
--- the machine after the power came back: its objects, and the numbers of operations and turns go on
+-- the machine after the power came back: its objects, its blocks of shared memory, and the numbers of operations and turns go on
 abbrev pub after_restart : {A : Type 0} → Machine A → Bool → Machine A
 after_restart m took = record m {
   boot = m.boot + 1;

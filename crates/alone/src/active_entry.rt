@@ -7,11 +7,12 @@ use app_api::{Ask, Given, Params};
 /// The entry that runs, with what its return needs.
 #[derive(Debug, Drop)]
 pub enum EntryPoint {
-    /// Create, for the open of this session; its start entry, with these parameters and output positions, comes next.
+    /// Create, for the open of this session by this client. Its start entry comes next; it is given these parameters, of which
+    /// references become bytes then.
     Create {
         session: u8,
+        client: u8,
         params: Params,
-        places: Places,
     },
     Start {
         session: u8,

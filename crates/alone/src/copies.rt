@@ -2,34 +2,19 @@
 
 ghost use Rattle.std.specs.Prelude.{◌≡◌, IfOk};
 
-use app_api::{Call, Param, Params};
+use app_api::{Call, Params};
 use std::alloc::Global;
 use tee_base::NoMemory;
-
-/// Another of the same parameter.
-fn copy_param(alloc: Global, param: &Param) -> Result<Param, NoMemory>
-    ensures { IfOk result (λ copy. copy ≡ param.now) }
-{
-    Ok(match param {
-        Param::Nothing => Param::Nothing,
-        Param::ValueIn(a, b) => Param::ValueIn(*a, *b),
-        Param::ValueOut => Param::ValueOut,
-        Param::ValueInOut(a, b) => Param::ValueInOut(*a, *b),
-        Param::MemIn(bytes) => Param::MemIn(bytes.copy(alloc)?),
-        Param::MemOut(room) => Param::MemOut(*room),
-        Param::MemInOut(bytes) => Param::MemInOut(bytes.copy(alloc)?),
-    })
-}
 
 /// Another four of the same parameters.
 pub fn copy_params(alloc: Global, params: &Params) -> Result<Params, NoMemory>
     ensures { IfOk result (λ copy. copy ≡ params.now) }
 {
     Ok(Params {
-        p0: copy_param(alloc, &params.p0)?,
-        p1: copy_param(alloc, &params.p1)?,
-        p2: copy_param(alloc, &params.p2)?,
-        p3: copy_param(alloc, &params.p3)?,
+        p0: params.p0.copy(alloc)?,
+        p1: params.p1.copy(alloc)?,
+        p2: params.p2.copy(alloc)?,
+        p3: params.p3.copy(alloc)?,
     })
 }
 
@@ -57,5 +42,17 @@ pub fn copy_call(alloc: Global, call: &Call) -> Result<Call, NoMemory>
             params: copy_params(alloc, params)?,
         },
         Call::Close { label } => Call::Close { label: *label },
+        Call::Share { block, flags, size } => Call::Share {
+            block: *block,
+            flags: *flags,
+            size: *size,
+        },
+        Call::Fill { block, at, bytes } => Call::Fill {
+            block: *block,
+            at: *at,
+            bytes: bytes.copy(alloc)?,
+        },
+        Call::Show { block } => Call::Show { block: *block },
+        Call::Unshare { block } => Call::Unshare { block: *block },
     })
 }

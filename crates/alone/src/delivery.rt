@@ -14,7 +14,12 @@ fn place(alloc: Global, param: &Param) -> Result<OutputSlot, NoMemory>
     ensures { IfOk result (λ place. place ≡ place_of param.now) }
 {
     Ok(match param {
-        Param::Nothing | Param::ValueIn(_, _) | Param::MemIn(_) => OutputSlot::Nothing,
+        // No entry is given a reference.
+        Param::Nothing
+        | Param::ValueIn(_, _)
+        | Param::MemIn(_)
+        | Param::Whole(_)
+        | Param::Part { .. } => OutputSlot::Nothing,
         Param::ValueOut => OutputSlot::Value,
         Param::ValueInOut(a, b) => OutputSlot::ValueInOut(*a, *b),
         Param::MemOut(room) => OutputSlot::Mem(*room),
@@ -88,7 +93,7 @@ fn shown_value(a: u32, b: u32, out: Out) -> Shown
 }
 
 /// How many bytes there are, as a size of 32 bits says it.
-fn size(bytes: &Bytes) -> u32
+pub(crate) fn size(bytes: &Bytes) -> u32
     ensures { result ≡ size_of_bytes bytes.now }
 {
     u32::try_from(bytes.len()).unwrap_or(u32::MAX)

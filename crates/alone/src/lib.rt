@@ -4,6 +4,7 @@
 
 mod active_entry;
 mod answering;
+mod blocks;
 mod copies;
 mod delivery;
 mod entries;
@@ -15,12 +16,14 @@ mod place;
 mod places;
 mod power;
 mod reply;
+mod sharing;
 mod turn;
 mod validity;
 
 pub use active_entry::{ActiveEntry, EntryPoint, Instance, Waits};
 pub use answering::{call_lines_are_answered, operations_are_few};
 pub use app_api::Call;
+pub use blocks::{block_outputs, deliver_to_blocks, give_params, references_refusal};
 pub use copies::{copy_call, copy_params};
 pub use delivery::{deliver, is_misuse, places_of};
 pub use entries::{destroy_entry, first_entry, returned, start_entry};
@@ -36,5 +39,6 @@ pub use place::place_of;
 pub use places::{OutputSlot, Places};
 pub use power::Power;
 pub use reply::{Outputs, REPLIES, Replies, Reply, Shown};
+pub use sharing::{blocks_change_by_events, references_hold};
 pub use turn::TurnKind;
 pub use validity::machines_stay_valid;

@@ -62,7 +62,8 @@ pub fn call_bytes(call: &Call) -> u128
 {
     match call {
         Call::Open { params, .. } | Call::Invoke { params, .. } => params_bytes(params),
-        Call::Close { .. } => 0,
+        Call::Fill { bytes, .. } => bytes.len() as u128,
+        Call::Close { .. } | Call::Share { .. } | Call::Show { .. } | Call::Unshare { .. } => 0,
     }
 }
 

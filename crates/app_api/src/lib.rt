@@ -8,6 +8,7 @@ mod host;
 mod login;
 mod out;
 mod param;
+mod reference;
 
 pub use application::Application;
 pub use ask::{Answer, Ask, Entry, Given};
@@ -16,3 +17,4 @@ pub use host::{Host, Properties, hosts_fit};
 pub use login::Login;
 pub use out::{Out, Outs};
 pub use param::{Param, Params, TooLarge};
+pub use reference::{Direction, Reference, References};

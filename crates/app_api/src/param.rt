@@ -1,9 +1,11 @@
 //! Parameters of a client's call.
 
-ghost use Rattle.std.specs.Prelude.{◌≡◌, MatchResult, None, Some};
-ghost use Rattle.app_api.specs.Params.{kind_of, size_of, is_oversized, first_oversized, no_params};
+ghost use Rattle.std.specs.Prelude.{◌≡◌, IfOk, MatchResult, None, Some};
+ghost use Rattle.app_api.specs.Params.{kind_of, size_of, is_oversized, first_oversized, no_params, reference_of, references_of};
 
-use tee_base::{Bytes, limits};
+use crate::reference::{Reference, References};
+use std::alloc::Global;
+use tee_base::{Bytes, NoMemory, limits};
 use thiserror::Error;
 
 /// One parameter (TEE Client API 1.0, section 4.3.7; TEE Internal Core API 1.3, section 4.3.6).
@@ -19,10 +21,20 @@ pub enum Param {
     MemOut(u32),
     /// A memory reference that the application reads, and writes up to its length.
     MemInOut(Bytes),
+    /// A whole block of shared memory. It is one of the three above when an entry begins, as its block's flags say.
+    Whole(u32),
+    /// A part of a block: so many bytes from a place on, as an input (1), an output (2) or both (3). It is one of the three
+    /// above when an entry begins.
+    Part {
+        block: u32,
+        way: u8,
+        at: u32,
+        size: u32,
+    },
 }
 
 impl Param {
-    /// The number of the parameter's type (TEE Internal Core API 1.3, table 4-9).
+    /// The number of the parameter's type (TEE Internal Core API 1.3, table 4-9; of a reference TEE Client API 1.0, table 4-6).
     pub fn kind(&self) -> u8
         ensures { result ≡ kind_of self.now }
     {
@@ -34,6 +46,9 @@ impl Param {
             Param::MemIn(_) => 5,
             Param::MemOut(_) => 6,
             Param::MemInOut(_) => 7,
+            Param::Whole(_) => 0xC,
+            // A way is 1, 2 or 3; a call with another is refused.
+            Param::Part { way, .. } => 0xC_u8.wrapping_add(*way),
         }
     }
 
@@ -44,8 +59,57 @@ impl Param {
         match self {
             Param::MemIn(bytes) | Param::MemInOut(bytes) => bytes.len(),
             Param::MemOut(room) => *room as usize,
+            Param::Part { size, .. } => *size as usize,
             _ => 0,
         }
+    }
+
+    /// The reference that it is, if it is one.
+    pub fn reference(&self) -> Option<Reference>
+        ensures { result ≡ reference_of self.now }
+    {
+        match self {
+            Param::Whole(block) => Some(Reference::Whole { block: *block }),
+            Param::Part {
+                block,
+                way,
+                at,
+                size,
+            } => Some(Reference::Part {
+                block: *block,
+                way: *way,
+                at: *at,
+                size: *size,
+            }),
+            _ => None,
+        }
+    }
+
+    /// Another of it.
+    pub fn copy(&self, alloc: Global) -> Result<Param, NoMemory>
+        ensures { IfOk result (λ copy. copy ≡ self.now) }
+    {
+        Ok(match self {
+            Param::Nothing => Param::Nothing,
+            Param::ValueIn(a, b) => Param::ValueIn(*a, *b),
+            Param::ValueOut => Param::ValueOut,
+            Param::ValueInOut(a, b) => Param::ValueInOut(*a, *b),
+            Param::MemIn(bytes) => Param::MemIn(bytes.copy(alloc)?),
+            Param::MemOut(room) => Param::MemOut(*room),
+            Param::MemInOut(bytes) => Param::MemInOut(bytes.copy(alloc)?),
+            Param::Whole(block) => Param::Whole(*block),
+            Param::Part {
+                block,
+                way,
+                at,
+                size,
+            } => Param::Part {
+                block: *block,
+                way: *way,
+                at: *at,
+                size: *size,
+            },
+        })
     }
 
     fn is_too_large(&self) -> bool
@@ -79,6 +143,18 @@ impl Params {
             p1: Param::Nothing,
             p2: Param::Nothing,
             p3: Param::Nothing,
+        }
+    }
+
+    /// The references that they are.
+    pub fn references(&self) -> References
+        ensures { result ≡ references_of self.now }
+    {
+        References {
+            p0: self.p0.reference(),
+            p1: self.p1.reference(),
+            p2: self.p2.reference(),
+            p3: self.p3.reference(),
         }
     }
 

@@ -39,7 +39,8 @@ use Rattle.alone.specs.Machine.{Machine, put_instance, with_instance}
 use Rattle.alone.specs.Places.{shown_outputs, is_misuse, places_at}
 use Rattle.alone.specs.Replies.{no_outputs}
 use Rattle.alone.specs.Step.{Stepped, after_ask, after_session, after_answer, after_destroy_begins, is_success, masked_again}
-use Rattle.alone.specs.Step.{no_replies, reply_of, after_return, serve_outcome, start_begun, store_left, torn_down, went_on}
+use Rattle.alone.specs.Blocks.{given_params}
+use Rattle.alone.specs.Step.{after_start, no_replies, reply_of, after_return, serve_outcome, start_begun, store_left, torn_down, went_on, with_delivery}
 use Rattle.alone.proofs.Lists.{put_put, filter_put}
 
 -- the instance without its running entry
@@ -83,16 +84,23 @@ after_session_taken : {A : Type 0} (m : Machine A) (inst : Instance A) (op : Opt
     after_session (taken m inst) (emptied inst) op code outputs ≡ after_session m inst op code outputs
 after_session_taken m inst op code outputs = same_choice (is_left m.table inst.number) _ _ _ _ (destroying_taken m inst op code outputs) (answered_taken m inst op code outputs)
 
+started_taken : {A : Type 0} (m : Machine A) (inst : Instance A) (op : Option ℕ) (session : ℕ) (code : Code) (os : Outputs) →
+    after_start (taken m inst) (emptied inst) op session code os ≡ after_start m inst op session code os
+started_taken m inst op session code os =
+    same_choice (is_success code) _ _ _ _
+    (answered_taken (record m { table = state_set m.table session Open }) inst op code os)
+    (after_session_taken (record m { table = session_removed m.table session }) inst op code os)
+
 pub returned_taken : {A : Type 0} (m : Machine A) (inst : Instance A) (op : Option ℕ) (stage : EntryPoint) (code : Code) (outs : Outs) →
     after_return (taken m inst) (emptied inst) op stage code outs ≡ after_return m inst op stage code outs
-returned_taken {A} m inst op (stages.Create session ps places) code outs =
-    let s : Stepped A = no_replies (with_instance (record m { queue = masked_again m.queue op }) (record inst { created = true; running = Some (start_begun op session ps places) })) in
+returned_taken {A} m inst op (stages.Create session client ps) code outs =
+    let s : Stepped A = no_replies (with_instance (record m { queue = masked_again m.queue op })
+    (record inst { created = true; running = Some (start_begun op session (given_params m.blocks client ps)) })) in
     same_choice (is_success code) _ _ _ _ (ap (left_with s) (put_put _ (emptied inst) m.instances refl)) (torn_taken m inst code)
 returned_taken m inst op (stages.Start session places) code outs =
-    same_choice (is_success code) _ _ _ _
-    (answered_taken (record m { table = state_set m.table session Open }) inst op code (shown_outputs places outs))
-    (after_session_taken (record m { table = session_removed m.table session }) inst op code (shown_outputs places outs))
-returned_taken m inst op (stages.Invoke session places) code outs = answered_taken m inst op code (shown_outputs places outs)
+    let os = shown_outputs places outs in started_taken (with_delivery m op os) inst op session code os
+returned_taken m inst op (stages.Invoke session places) code outs =
+    let os = shown_outputs places outs in answered_taken (with_delivery m op os) inst op code os
 returned_taken m inst op (stages.Stop session) code outs = after_session_taken (record m { table = session_removed m.table session }) inst op SUCCESS no_outputs
 returned_taken {A} m inst op (stages.Destroy reply) code outs =
     ap (left_with (after_return m inst op (stages.Destroy reply) code outs)) (filter_put inst.number (emptied inst) m.instances refl)

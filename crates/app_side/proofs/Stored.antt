@@ -1,12 +1,12 @@
 -- Calls, beginnings and returns don't look at the objects, and leave them.
-use Rattle.std.proofs.Common.{ℕ, ◌≡◌, Bool, true, false, cond, ◌&&◌, [], ◌∷◌, Option, None, Some, Result, Ok, Err, is_some, refl, sym, ap, ◌∙◌}
+use Rattle.std.proofs.Common.{ℕ, ◌≡◌, Bool, true, false, cond, ◌&&◌, List, [], ◌∷◌, Option, None, Some, Result, Ok, Err, is_some, refl, sym, ap, ◌∙◌}
 use Rattle.tee_base.specs.declared.codes.Code.{Code}
 use Rattle.app_api.specs.declared.out.Outs.{Outs}
 use Rattle.app_api.specs.declared.login.Login.{Login}
 use Rattle.app_api.specs.declared.param.Params.{Params}
 use Rattle.app_api.specs.declared.call.Call.{Call}
 use Rattle.app_api.specs.declared.call.Call.TheVariants as calls
-use Rattle.app_api.specs.Params.{first_oversized}
+use Rattle.app_api.specs.Params.{first_oversized, references_of}
 use Rattle.instances.specs.declared.instances.Admission.{Admission}
 use Rattle.instances.specs.declared.instances.Refusal.{Refusal}
 use Rattle.instances.specs.declared.session.SessionFacts.{SessionFacts}
@@ -14,13 +14,16 @@ use Rattle.instances.specs.declared.session.SessionState.{SessionState}
 use Rattle.instances.specs.declared.session.SessionState.TheVariants.{Opening, Open, Closing, Dead}
 use Rattle.instances.specs.Instances.{admission_of, is_left, session_removed, state_set}
 use Rattle.op_queue.specs.declared.operation.Begun.{Begun}
-use Rattle.op_queue.specs.Queue.{is_full, first_waiting, begun_at, after_begin, after_cancel, cancel_of, operation_of}
+use Rattle.op_queue.specs.Queue.{is_full, first_waiting, begun_at, after_begin, after_cancel, cancel_of, is_named, operation_of}
+use Rattle.shared_mem.specs.declared.block.Block.{Block}
+use Rattle.shared_mem.specs.Blocks.{fill_of, share_of, show_of, unshare_of}
 use Rattle.store_api.specs.Stores.{Store, empty_store}
 use Rattle.alone.specs.declared.active_entry.Instance.{Instance}
 use Rattle.alone.specs.declared.active_entry.EntryPoint.{EntryPoint}
 use Rattle.alone.specs.declared.active_entry.EntryPoint.TheVariants as stages
 use Rattle.alone.specs.Machine.{Machine}
 use Rattle.alone.specs.Asks.{cancel}
+use Rattle.alone.specs.Blocks.{references_refusal}
 use Rattle.alone.specs.Machine.{instance_at}
 use Rattle.alone.specs.Places.{shown_outputs}
 use Rattle.alone.specs.Replies.{no_outputs}
@@ -29,8 +32,9 @@ use Rattle.tee_base.specs.declared.codes.Origin.{Origin}
 use Rattle.tee_base.specs.declared.codes.Origin.TheVariants.{Tee}
 use Rattle.tee_base.specs.declared.codes.TheConstants.Code.{SUCCESS}
 use Rattle.alone.specs.Step.{Stepped, after_session, after_answer, with_next_begun, begun_with, after_call}
-use Rattle.alone.specs.Step.{called_open, after_cancellation, cancelled_by, closed_at, closed_in, after_dropped_open, idle}
-use Rattle.alone.specs.Step.{invoked_at, invoked_in, is_success, is_unused, facts_of_label, opened_as, no_replies, reply_of, after_return, torn_down, waiting_open}
+use Rattle.alone.specs.Step.{after_start, block_shown, called_open, after_cancellation, cancelled_by, closed_at, closed_in, after_dropped_open, idle}
+use Rattle.alone.specs.Step.{invoked_at, invoked_in, invoked_with, is_success, is_unused, facts_of_label, memory_done, opened_as, opened_with}
+use Rattle.alone.specs.Step.{no_replies, reply_of, after_return, torn_down, waiting_open, with_delivery}
 use Rattle.op_queue.specs.declared.operation.Cancelled.{Cancelled as Cancellation}
 use Rattle.op_queue.specs.declared.operation.Cancelled.TheVariants.{Dropped, Flagged, Nothing}
 use Rattle.app_side.specs.declared.side.AppSide.{AppSide}
@@ -50,14 +54,6 @@ chosen : {A : Type 0} (store : Store) (doubt : Option Store) (b : Bool) (x y : S
     cond b x2 y2 ≡ step_over store doubt (cond b x y)
 chosen store doubt true x y x2 y2 ex ey = ex
 chosen store doubt false x y x2 y2 ex ey = ey
-
-open_over : {A : Type 0} (store : Store) (doubt : Option Store) (m : Machine A) (client label : ℕ) (login : Login) (ps : Params) →
-    called_open (over store doubt m) client label login ps ≡ step_over store doubt (called_open m client label login ps)
-open_over store doubt m client label login ps =
-    chosen store doubt (is_some (first_oversized ps)) _ _ _ _ refl
-    (chosen store doubt (is_some (facts_of_label m client label)) _ _ _ _ refl
-    (chosen store doubt (is_full m.queue) _ _ _ _ refl
-    (opened_over store doubt m client label login ps (admission_of m.table client label))))
 
 invoke_at_over : {A : Type 0} (store : Store) (doubt : Option Store) (m : Machine A) (client : ℕ) (call : Call) (s : SessionFacts) (state : SessionState) →
     invoked_at (over store doubt m) client call s state ≡ step_over store doubt (invoked_at m client call s state)
@@ -83,13 +79,47 @@ close_in_over : {A : Type 0} (store : Store) (doubt : Option Store) (m : Machine
 close_in_over store doubt m client label None = refl
 close_in_over store doubt m client label (Some s) = close_at_over store doubt m client label s s.state
 
+-- an open, or an invoke, by what its references are refused with
+opened_with_over : {A : Type 0} (store : Store) (doubt : Option Store) (m : Machine A) (client label : ℕ) (login : Login) (ps : Params) (refused : Option Code) →
+    opened_with (over store doubt m) client label login ps refused ≡ step_over store doubt (opened_with m client label login ps refused)
+opened_with_over store doubt m client label login ps (Some code) = refl
+opened_with_over store doubt m client label login ps None =
+    chosen store doubt (is_some (facts_of_label m client label)) _ _ _ _ refl
+    (chosen store doubt (is_full m.queue) _ _ _ _ refl
+    (opened_over store doubt m client label login ps (admission_of m.table client label)))
+
+open_over : {A : Type 0} (store : Store) (doubt : Option Store) (m : Machine A) (client label : ℕ) (login : Login) (ps : Params) →
+    called_open (over store doubt m) client label login ps ≡ step_over store doubt (called_open m client label login ps)
+open_over store doubt m client label login ps =
+    chosen store doubt (is_some (first_oversized ps)) _ _ _ _ refl
+    (opened_with_over store doubt m client label login ps (references_refusal m.blocks client (references_of ps)))
+
+invoked_with_over : {A : Type 0} (store : Store) (doubt : Option Store) (m : Machine A) (client label command : ℕ) (ps : Params) (refused : Option Code) →
+    invoked_with (over store doubt m) client label command ps refused ≡ step_over store doubt (invoked_with m client label command ps refused)
+invoked_with_over store doubt m client label command ps (Some code) = refl
+invoked_with_over store doubt m client label command ps None = invoke_in_over store doubt m client (calls.Invoke label command ps) (facts_of_label m client label)
+
+-- a call about shared memory
+memory_over : {A : Type 0} (store : Store) (doubt : Option Store) (m : Machine A) (r : Result (List Block) Code) → memory_done (over store doubt m) r ≡ step_over store doubt (memory_done m r)
+memory_over store doubt m (Ok blocks) = refl
+memory_over store doubt m (Err code) = refl
+
+shown_over : {A : Type 0} (store : Store) (doubt : Option Store) (m : Machine A) (r : Result (List ℕ) Code) → block_shown (over store doubt m) r ≡ step_over store doubt (block_shown m r)
+shown_over store doubt m (Ok bytes) = refl
+shown_over store doubt m (Err code) = refl
+
 pub called_over : {A : Type 0} (store : Store) (doubt : Option Store) (m : Machine A) (client : ℕ) (call : Call) → after_call (over store doubt m) client call ≡ step_over store doubt
     (after_call m client call)
 unfolding after_call
 called_over store doubt m client (calls.Open label login ps) = open_over store doubt m client label login ps
 called_over store doubt m client (calls.Invoke label command ps) =
-    chosen store doubt (is_some (first_oversized ps)) _ _ _ _ refl (invoke_in_over store doubt m client (calls.Invoke label command ps) (facts_of_label m client label))
+    chosen store doubt (is_some (first_oversized ps)) _ _ _ _ refl
+    (invoked_with_over store doubt m client label command ps (references_refusal m.blocks client (references_of ps)))
 called_over store doubt m client (calls.Close label) = close_in_over store doubt m client label (facts_of_label m client label)
+called_over store doubt m client (calls.Share block flags size) = memory_over store doubt m (share_of m.blocks client block flags size)
+called_over store doubt m client (calls.Fill block at bytes) = memory_over store doubt m (fill_of m.blocks client block at bytes)
+called_over store doubt m client (calls.Show block) = shown_over store doubt m (show_of m.blocks client block)
+called_over store doubt m client (calls.Unshare block) = memory_over store doubt m (unshare_of m.blocks client block (is_named m.queue client block))
 
 -- a choice of machines is the same on both sides
 chosen_machine : {A : Type 0} (store : Store) (doubt : Option Store) (b : Bool) (x y x2 y2 : Machine A) → x2 ≡ over store doubt x → y2 ≡ over store doubt y →
@@ -117,14 +147,20 @@ after_session_over : {A : Type 0} (store : Store) (doubt : Option Store) (m : Ma
     after_session (over store doubt m) inst op code outputs ≡ step_over store doubt (after_session m inst op code outputs)
 after_session_over store doubt m inst op code outputs = chosen store doubt (is_left m.table inst.number) _ _ _ _ refl (answered_over store doubt m inst op code outputs)
 
+started_over : {A : Type 0} (store : Store) (doubt : Option Store) (m : Machine A) (inst : Instance A) (op : Option ℕ) (session : ℕ) (code : Code) (os : Outputs) →
+    after_start (over store doubt m) inst op session code os ≡ step_over store doubt (after_start m inst op session code os)
+started_over store doubt m inst op session code os =
+    chosen store doubt (is_success code) _ _ _ _
+    (answered_over store doubt (record m { table = state_set m.table session Open }) inst op code os)
+    (after_session_over store doubt (record m { table = session_removed m.table session }) inst op code os)
+
 pub returned_over : {A : Type 0} (store : Store) (doubt : Option Store) (m : Machine A) (inst : Instance A) (op : Option ℕ) (stage : EntryPoint) (code : Code) (outs : Outs) →
     after_return (over store doubt m) inst op stage code outs ≡ step_over store doubt (after_return m inst op stage code outs)
-returned_over store doubt m inst op (stages.Create session ps places) code outs = chosen store doubt (is_success code) _ _ _ _ refl refl
+returned_over store doubt m inst op (stages.Create session client ps) code outs = chosen store doubt (is_success code) _ _ _ _ refl refl
 returned_over store doubt m inst op (stages.Start session places) code outs =
-    chosen store doubt (is_success code) _ _ _ _
-    (answered_over store doubt (record m { table = state_set m.table session Open }) inst op code (shown_outputs places outs))
-    (after_session_over store doubt (record m { table = session_removed m.table session }) inst op code (shown_outputs places outs))
-returned_over store doubt m inst op (stages.Invoke session places) code outs = answered_over store doubt m inst op code (shown_outputs places outs)
+    let os = shown_outputs places outs in started_over store doubt (with_delivery m op os) inst op session code os
+returned_over store doubt m inst op (stages.Invoke session places) code outs =
+    let os = shown_outputs places outs in answered_over store doubt (with_delivery m op os) inst op code os
 returned_over store doubt m inst op (stages.Stop session) code outs = after_session_over store doubt (record m { table = session_removed m.table session }) inst op SUCCESS no_outputs
 returned_over store doubt m inst op (stages.Destroy reply) code outs = refl
 
@@ -160,6 +196,13 @@ cancelled_over store doubt m op =
 some_of : (b : Bool) (store : Store) → is_some (doubtful b store) ≡ b
 some_of true store = refl
 some_of false store = refl
+
+-- values that stand for the same machine over some objects keep the same
+pub same_parts : {A : Type 0} (one other : AppSide A) (store store2 doubt : Store) → machine_over one store doubt ≡ machine_over other store2 doubt → machine_of one ≡ machine_of other
+same_parts {A} one other store store2 doubt e =
+    let in_doubt : one.in_doubt ≡ other.in_doubt = sym (some_of one.in_doubt doubt) ∙ ap (λ (m : Machine A). is_some m.in_doubt) e ∙ some_of other.in_doubt doubt in
+    ap (λ (m : Machine A). over empty_store (doubtful one.in_doubt empty_store) m) e
+    ∙ ap (λ (b : Bool). over empty_store (doubtful b empty_store) (machine_of other)) in_doubt
 
 -- a step that leaves the objects leaves whether there are others in doubt
 doubt_stays : {A : Type 0} (old new : AppSide A) (f : Machine A → Stepped A) → ((store : Store) (doubt : Option Store) (m : Machine A) →
@@ -237,14 +280,35 @@ closed_in_lost : {A : Type 0} (m : Machine A) (client label : ℕ) (o : Option S
 closed_in_lost m client label None = refl
 closed_in_lost m client label (Some s) = closed_lost m client label s s.state
 
+opened_with_lost : {A : Type 0} (m : Machine A) (client label : ℕ) (login : Login) (ps : Params) (refused : Option Code) → (opened_with m client label login ps refused).machine.lost ≡ m.lost
+opened_with_lost m client label login ps (Some code) = refl
+opened_with_lost m client label login ps None =
+    stays_lost m.lost (is_some (facts_of_label m client label)) _ _ refl
+    (stays_lost m.lost (is_full m.queue) _ _ refl (opened_lost m client label login ps (admission_of m.table client label)))
+
+invoked_with_lost : {A : Type 0} (m : Machine A) (client label command : ℕ) (ps : Params) (refused : Option Code) → (invoked_with m client label command ps refused).machine.lost ≡ m.lost
+invoked_with_lost m client label command ps (Some code) = refl
+invoked_with_lost m client label command ps None = invoked_in_lost m client (calls.Invoke label command ps) (facts_of_label m client label)
+
+memory_lost : {A : Type 0} (m : Machine A) (r : Result (List Block) Code) → (memory_done m r).machine.lost ≡ m.lost
+memory_lost m (Ok blocks) = refl
+memory_lost m (Err code) = refl
+
+shown_lost : {A : Type 0} (m : Machine A) (r : Result (List ℕ) Code) → (block_shown m r).machine.lost ≡ m.lost
+shown_lost m (Ok bytes) = refl
+shown_lost m (Err code) = refl
+
 pub called_lost : {A : Type 0} (m : Machine A) (client : ℕ) (call : Call) → (after_call m client call).machine.lost ≡ m.lost
 unfolding after_call
 called_lost m client (calls.Open label login ps) =
-    stays_lost m.lost (is_some (first_oversized ps)) _ _ refl (stays_lost m.lost (is_some (facts_of_label m client label)) _ _ refl
-    (stays_lost m.lost (is_full m.queue) _ _ refl (opened_lost m client label login ps (admission_of m.table client label))))
-called_lost m client (calls.Invoke label command ps) = stays_lost m.lost (is_some (first_oversized ps)) _ _ refl (invoked_in_lost m client (calls.Invoke label command ps)
-    (facts_of_label m client label))
+    stays_lost m.lost (is_some (first_oversized ps)) _ _ refl (opened_with_lost m client label login ps (references_refusal m.blocks client (references_of ps)))
+called_lost m client (calls.Invoke label command ps) =
+    stays_lost m.lost (is_some (first_oversized ps)) _ _ refl (invoked_with_lost m client label command ps (references_refusal m.blocks client (references_of ps)))
 called_lost m client (calls.Close label) = closed_in_lost m client label (facts_of_label m client label)
+called_lost m client (calls.Share block flags size) = memory_lost m (share_of m.blocks client block flags size)
+called_lost m client (calls.Fill block at bytes) = memory_lost m (fill_of m.blocks client block at bytes)
+called_lost m client (calls.Show block) = shown_lost m (show_of m.blocks client block)
+called_lost m client (calls.Unshare block) = memory_lost m (unshare_of m.blocks client block (is_named m.queue client block))
 
 -- the machine is as it was
 pub same_stands : {A : Type 0} (old new : AppSide A) → machine_of new ≡ machine_of old → (m : Machine A) → Represents old m → Represents new m

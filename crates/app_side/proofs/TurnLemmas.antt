@@ -1,6 +1,7 @@
 -- From what a turn leaves of a value to what it leaves of the machines that the value stands for.
 use Rattle.app_api.specs.Behaviours.{Behaviour}
-use Rattle.std.proofs.Common.{ℕ, Bool, true, false, cond, is_some, None, ◌≡◌, ◌+◌, ◌∙◌, List, Option, Some, find, sym, ap, subst, refl}
+use Rattle.std.proofs.Common.{ℕ, Bool, true, false, cond, is_some, None, ◌≡◌, ◌+◌, ◌∙◌, List, [], Option, Some, Result, Err, find, sym, ap, subst, refl}
+use Rattle.tee_base.specs.declared.bytes.NoMemory.{NoMemory}
 use Rattle.tee_base.specs.declared.codes.Code.{Code}
 use Rattle.app_api.specs.declared.out.Outs.{Outs}
 use Rattle.app_api.specs.declared.ask.Ask.{Ask}
@@ -23,6 +24,7 @@ use Rattle.object_asks.specs.declared.turn.TurnKind.TheVariants.{Plain, Lost, Co
 use Rattle.object_asks.specs.Resolutions.{Outcome, Answered, comes_to_store}
 use Rattle.tee_base.specs.declared.codes.TheConstants.Code.{SUCCESS}
 use Rattle.tee_base.specs.declared.codes.Origin.{Origin}
+use Rattle.tee_base.specs.declared.codes.Origin.TheVariants.{Tee}
 use Rattle.instances.specs.declared.session.SessionState.TheVariants.{Open}
 use Rattle.instances.specs.Instances.{is_left, session_removed, state_set}
 use Rattle.alone.specs.Places.{shown_outputs}
@@ -32,13 +34,14 @@ use Rattle.alone.specs.Asks.{resolution_after, objects_of}
 use Rattle.alone.specs.Kinds.{kind_by}
 use Rattle.alone.specs.Machine.{Machine, is_number, with_instance}
 use Rattle.alone.specs.Step.{Stepped, after_ask, after_session, after_answer, with_next_begun, begun_with, after_destroy_begins, idle, is_success, is_changing, is_enabled}
-use Rattle.alone.specs.Step.{of_instance, of_running, of_waits, reaches, no_replies, after_return, step, after_app_step, torn_down, turned_as}
+use Rattle.alone.specs.Step.{after_start, of_instance, of_running, of_waits, reaches, no_replies, after_return, step, after_app_step, torn_down, turned_as, with_delivery}
 use Rattle.app_side.specs.declared.side.AppSide.{AppSide}
 use Rattle.app_side.specs.Asking.{is_to_change, reaches_store}
 use Rattle.operation_asks.specs.Kept.{state_of}
-use Rattle.app_side.specs.Represents.{IsStep, IsTurned, Represents, event_of, machine_of, machine_over, store_kind}
-use Rattle.object_asks.specs.Serving.{HasStatus, Meets, SaysChange, TriesOnce, serving_of}
-use Rattle.app_side.specs.Serving.{IfStarved, IsTurnOf}
+use Rattle.app_side.specs.Represents.{IsStep, IsTornAlike, IsTurned, Represents, event_of, machine_of, machine_over, store_kind}
+use Rattle.object_asks.specs.Asks.{Serving}
+use Rattle.object_asks.specs.Serving.{EndsUnchanged, HasStatus, Meets, SaysChange, TriesOnce, serving_of}
+use Rattle.app_side.specs.Serving.{IfStarved, IsTurnOf, StarvesAlike, TakesTurn}
 use Rattle.app_side.proofs.Carried.{reaching_is}
 use Rattle.alone.specs.declared.active_entry.Waits.{Waits}
 use Rattle.std.specs.Prelude.{◌&&◌, not}
@@ -157,15 +160,19 @@ answered_lost m inst (Some op) code outputs = refl
 after_session_lost : {A : Type 0} (m : Machine A) (inst : Instance A) (op : Option ℕ) (code : Code) (outputs : Outputs) → (after_session m inst op code outputs).machine.lost ≡ m.lost
 after_session_lost m inst op code outputs = either_lost m.lost (is_left m.table inst.number) _ _ refl (answered_lost m inst op code outputs)
 
-pub returned_lost : {A : Type 0} (m : Machine A) (inst : Instance A) (op : Option ℕ) (stage : EntryPoint) (code : Code) (outs : Outs) → (after_return m inst op stage code outs).machine.lost ≡ m.lost
-returned_lost m inst op (stages.Create session ps places) code outs = either_lost m.lost (is_success code) _ _ refl refl
-returned_lost m inst op (stages.Start session places) code outs =
+started_lost : {A : Type 0} (m : Machine A) (inst : Instance A) (op : Option ℕ) (session : ℕ) (code : Code) (os : Outputs) → (after_start m inst op session code os).machine.lost ≡ m.lost
+started_lost m inst op session code os =
     either_lost m.lost (is_success code)
-    (after_answer (record m { table = state_set m.table session Open }) inst op code (shown_outputs places outs))
-    (after_session (record m { table = session_removed m.table session }) inst op code (shown_outputs places outs))
-    (answered_lost (record m { table = state_set m.table session Open }) inst op code (shown_outputs places outs))
-    (after_session_lost (record m { table = session_removed m.table session }) inst op code (shown_outputs places outs))
-returned_lost m inst op (stages.Invoke session places) code outs = answered_lost m inst op code (shown_outputs places outs)
+    (after_answer (record m { table = state_set m.table session Open }) inst op code os)
+    (after_session (record m { table = session_removed m.table session }) inst op code os)
+    (answered_lost (record m { table = state_set m.table session Open }) inst op code os)
+    (after_session_lost (record m { table = session_removed m.table session }) inst op code os)
+
+pub returned_lost : {A : Type 0} (m : Machine A) (inst : Instance A) (op : Option ℕ) (stage : EntryPoint) (code : Code) (outs : Outs) → (after_return m inst op stage code outs).machine.lost ≡ m.lost
+returned_lost m inst op (stages.Create session client ps) code outs = either_lost m.lost (is_success code) _ _ refl refl
+returned_lost m inst op (stages.Start session places) code outs =
+    let os = shown_outputs places outs in started_lost (with_delivery m op os) inst op session code os
+returned_lost m inst op (stages.Invoke session places) code outs = let os = shown_outputs places outs in answered_lost (with_delivery m op os) inst op code os
 returned_lost m inst op (stages.Stop session) code outs = after_session_lost (record m { table = session_removed m.table session }) inst op SUCCESS no_outputs
 returned_lost m inst op (stages.Destroy reply) code outs = refl
 
@@ -217,6 +224,21 @@ pub turn_tried : {A : Type 0} (old : AppSide A) (i : ℕ) (before after : Status
 turn_tried {A} old i before after tried m of_m = subst (λ (x : Machine A). TriesOnce (is_changing x i) before after) (sym of_m.parts) tried
 
 module _ {D : Type 0} (K : Keeper D) where
+  -- a turn that found no memory, where the instance is torn down as before whatever the store is
+  pub starves_alike : {A : Type 0} (i : ℕ) (before after : AppSide A) (replies : List Reply) (old new : D) → IsTornAlike i after (machine_of before) →
+      HasStatus Plain (K.status old) (K.status new) → replies ≡ [] → StarvesAlike K i before after (machine_of before) replies old new
+  starves_alike {A} i before after replies old new alike status none = record {
+    alike = λ _ _. alike;
+    lost = λ same. ap (λ (s : Stepped A). s.machine.lost) (alike SUCCESS Tee) ∙ same ∙ sym status.cause;
+    none = none;
+  }
+
+  pub starves_turn : {A : Type 0} (stated : Serving → Machine A → Stepped A) (comes changes : Bool) (i : ℕ) (result : Result TurnKind NoMemory) (want : NoMemory) (before after : AppSide A)
+      (replies : List Reply) (old new : D) → result ≡ Err want → TriesOnce changes (K.status old) (K.status new) → EndsUnchanged K old new
+      → StarvesAlike K i before after (machine_of before) replies old new → TakesTurn K stated comes changes i result before after replies old new
+  starves_turn stated comes changes i result want before after replies old new is tried unchanged alike =
+      rw is (record { step = tt; kind = tt; crash = tt; tried = tried; want = unchanged; starves = alike })
+
   pub moves : (kind : TurnKind) (comes comes2 changes changes2 lost left left2 : Bool) (old new : D) → comes ≡ comes2 → changes ≡ changes2 → left ≡ left2
       → IsTurnOf K kind comes changes lost left old new → IsTurnOf K kind comes2 changes2 lost left2 old new
   moves kind comes comes2 changes changes2 lost left left2 old new c h l is =

@@ -1,13 +1,17 @@
 -- Which machines a running application stands for.
-use Rattle.std.specs.Prelude.{ℕ, ◌≡◌, Bool, true, ◌||◌, List, [], ◌∷◌, Option, None, Some, if◌then◌else◌}
+use Rattle.std.specs.Prelude.{ℕ, ◌≡◌, Bool, true, ◌||◌, List, [], ◌∷◌, Option, None, Some, Result, Ok, Err, ⊤, if◌then◌else◌}
 use Rattle.store_api.specs.Stores.{Store, empty_store}
 use Rattle.alone.specs.Replies.{no_outputs}
 use Rattle.alone.specs.declared.reply.Reply.{Reply}
-use Rattle.instances.specs.declared.instances.Refusal.{Refusal}
+use Rattle.alone.specs.declared.reply.Outputs.{Outputs}
+use Rattle.alone.specs.Blocks.{block_outputs}
 use Rattle.object_asks.specs.declared.turn.TurnKind.{TurnKind as StoreKind}
 use Rattle.object_asks.specs.declared.turn.TurnKind.TheVariants as store_kinds
 use Rattle.operation_asks.specs.Kept.{state_of}
+use Rattle.shared_mem.specs.declared.answer.BlockAnswer.{BlockAnswer}
+use Rattle.shared_mem.specs.declared.answer.BlockAnswer.TheVariants as answers
 use Rattle.tee_base.specs.declared.codes.Code.{Code}
+use Rattle.tee_base.specs.declared.codes.TheConstants.Code.{SUCCESS}
 use Rattle.tee_base.specs.declared.codes.Origin.{Origin}
 use Rattle.alone.specs.declared.turn.TurnKind.{TurnKind}
 use Rattle.alone.specs.declared.turn.TurnKind.TheVariants as kinds
@@ -17,6 +21,7 @@ use Rattle.alone.specs.Step.{Stepped, Event, Turned, TurnLost, Corrupted, Starve
 use Rattle.object_asks.specs.declared.outcome.Outcome.{Outcome as Result_of}
 use Rattle.object_asks.specs.declared.outcome.Outcome.TheVariants as outcomes
 use Rattle.app_side.specs.declared.side.AppSide.{AppSide}
+use Rattle.app_side.specs.declared.side.AtOnce.{AtOnce}
 use Rattle.app_side.specs.declared.side.Called.{Called}
 use Rattle.app_side.specs.declared.side.Taken.{Taken}
 use Rattle.tee_base.specs.Words.{InstanceNumber}
@@ -39,6 +44,7 @@ machine_of side = record {
   store = empty_store;
   lost = side.lost;
   in_doubt = doubtful side.in_doubt empty_store;
+  blocks = side.blocks;
   held = side.held;
   crypto = state_of side.operations;
 }
@@ -87,14 +93,25 @@ store_kind (kinds.Lost changes) = store_kinds.Lost changes
 store_kind kinds.Starved = store_kinds.Plain
 store_kind kinds.Corrupted = store_kinds.Corrupted
 
--- the reply of a call that is refused, and none of one that waits
-abbrev pub replies_at_once : ℕ → Option Refusal → List Reply
+-- what a client is shown of a call that is answered at once: the bytes of a block, where it is shown one
+abbrev pub outputs_at_once : Option (List ℕ) → Outputs
+outputs_at_once None = no_outputs
+outputs_at_once (Some bytes) = block_outputs bytes
+
+-- the reply of a call that is answered at once, and none of one that waits
+abbrev pub replies_at_once : ℕ → Option AtOnce → List Reply
 replies_at_once op None = []
-replies_at_once op (Some refusal) = reply_of op refusal.code refusal.origin no_outputs ∷ []
+replies_at_once op (Some answer) = reply_of op answer.code answer.origin (outputs_at_once answer.shown) ∷ []
+
+-- the code that a call about shared memory is answered with, where there is memory for it, by what the blocks told of it
+abbrev pub code_told : Result ⊤ BlockAnswer → Option Code
+code_told (Ok done) = Some SUCCESS
+code_told (Err (answers.Refused code)) = Some code
+code_told (Err answers.NoMemory) = None
 
 -- what becomes of a call that was taken in
 abbrev pub called_of : Taken → Called
-called_of taken = record { op = taken.op; instance = taken.instance; replies = replies_at_once taken.op taken.refusal }
+called_of taken = record { op = taken.op; instance = taken.instance; replies = replies_at_once taken.op taken.answer }
 
 -- the value and what became of the call are those of a step
 pub record IsCalled {A : Type 0} (side : AppSide A) (called : Called) (number : ℕ) (s : Stepped A) : Type 0 where
@@ -111,11 +128,6 @@ pub record IsTurned {A : Type 0} (side : AppSide A) (given : List Reply) (s : St
 -- whatever tears the instance down finds the same as in this machine
 abbrev pub IsTornAlike : {A : Type 0} → InstanceNumber → AppSide A → Machine A → Type 0
 IsTornAlike instance side m = (code : Code) (origin : Origin) → torn_down (machine_of side) instance code origin ≡ torn_down m instance code origin
-
--- the same, and there is no reply yet
-pub record StarvesAlike {A : Type 0} (instance : InstanceNumber) (side : AppSide A) (given : List Reply) (m : Machine A) : Type 0 where
-  pub alike : IsTornAlike instance side m
-  pub none : given ≡ []
 
 -- the value stands for what a step leaves, with this store, and the replies are the step's
 pub record IsStep {A : Type 0} (side : AppSide A) (store : Store) (given : List Reply) (s : Stepped A) : Type 0 where

@@ -1,5 +1,5 @@
 -- How a turn goes over a keeper of a store.
-use Rattle.std.specs.Prelude.{◌≡◌, true, Bool, IfOk, List, OnErr, Option, None, Result, find, is_some}
+use Rattle.std.specs.Prelude.{◌≡◌, true, Bool, IfOk, List, [], OnErr, Option, None, Result, find, is_some}
 use Rattle.tee_base.specs.declared.bytes.NoMemory.{NoMemory}
 use Rattle.app_api.specs.Behaviours.{Behaviour}
 use Rattle.store_api.specs.Keeping.{Keeper, LeavesJust}
@@ -17,7 +17,7 @@ use Rattle.alone.specs.declared.turn.TurnKind.TheVariants as kinds
 use Rattle.alone.specs.Machine.{Machine, is_number}
 use Rattle.alone.specs.Step.{Stepped, is_changing, is_enabled, step as step_of, turn_counted}
 use Rattle.app_side.specs.declared.side.AppSide.{AppSide}
-use Rattle.app_side.specs.Represents.{IsLeft, IsStep, IsTornAlike, Represents, StarvesAlike, event_of, is_lost, machine_of, machine_over, store_kind}
+use Rattle.app_side.specs.Represents.{IsLeft, IsStep, IsTornAlike, Represents, event_of, is_lost, machine_of, machine_over, store_kind}
 use Rattle.tee_base.specs.Words.{InstanceNumber}
 
 -- a fact that holds of a turn that found no memory
@@ -72,6 +72,13 @@ module _ {D : Type 0} (K : Keeper D) where
     pub starves : OnErr result (IsTornAlike instance after (machine_of before))
     pub instances : after.instances ≡ before.instances
 
+  -- there was no memory for a turn from this machine: tearing the instance down gives the same as before, where the value and a store
+  -- that has a model agree on the loss; the value's own note of it goes with the store's, and there is no reply yet
+  pub record StarvesAlike {A : Type 0} (instance : InstanceNumber) (before after : AppSide A) (m : Machine A) (replies : List Reply) (old new : D) : Type 0 where
+    pub alike : K.has_model old → is_lost before ≡ (K.status old).lost → IsTornAlike instance after m
+    pub lost : is_lost before ≡ (K.status old).lost → is_lost after ≡ (K.status new).lost
+    pub none : replies ≡ []
+
   -- a turn, or a part of one, where stated is its step for a machine when the store does so: the step and its replies, how the
   -- store did, or that there was no memory; then tearing the instance down gives the same as before
   pub record TakesTurn {A : Type 0} (stated : Serving → Machine A → Stepped A) (comes changes : Bool) (instance : InstanceNumber) (result : Result StoreKind NoMemory) (before after : AppSide A)
@@ -83,7 +90,7 @@ module _ {D : Type 0} (K : Keeper D) where
         → CrashTurns K kind (stated (serving_of kind) (machine_over before (K.contents old).store doubt)).machine.in_doubt old new)
     pub tried : TriesOnce changes (K.status old) (K.status new)
     pub want : OnErr result (EndsUnchanged K old new)
-    pub starves : OnErr result (StarvesAlike instance after replies (machine_of before))
+    pub starves : OnErr result (StarvesAlike instance before after (machine_of before) replies old new)
 
   -- a turn as a whole: it is counted also where there was no memory, which an instance alone wants that is there
   pub record AdvancesTurn {A : Type 0} (stated : Serving → Machine A → Stepped A) (comes changes : Bool) (instance : InstanceNumber) (result : Result StoreKind NoMemory)
@@ -95,7 +102,7 @@ module _ {D : Type 0} (K : Keeper D) where
         → CrashTurns K kind (stated (serving_of kind) (machine_over before (K.contents old).store doubt)).machine.in_doubt old new)
     pub tried : TriesOnce changes (K.status old) (K.status new)
     pub want : OnErr result (EndsUnchanged K old new)
-    pub starves : OnErr result (StarvesAlike instance after replies (turn_counted (machine_of before)))
+    pub starves : OnErr result (StarvesAlike instance before after (turn_counted (machine_of before)) replies old new)
     pub there : OnErr result (is_some (find (is_number instance) before.instances.items) ≡ true)
 
   -- what a turn of an instance promises of a value that represents machines, of this kind and with these replies

@@ -1,16 +1,16 @@
 //! Clients' calls.
 
-ghost use Rattle.tee_base.specs.declared.limits.TheConstants.{MAX_NUMBER};
+ghost use Rattle.tee_base.specs.declared.limits.TheConstants.{MAX_CLIENTS, MAX_NUMBER};
 ghost use Rattle.std.specs.Prelude.{◌≡◌, ◌<◌, ◌^◌, ◌++◌, [], ◌∷◌, IfOk, OnOk, OnErr, Ok, true, false, not, ◌&&◌};
 ghost use Rattle.instances.specs.Instances.{admission_of};
 ghost use Rattle.op_queue.specs.Queue.{is_full, is_close_call};
 ghost use Rattle.alone.specs.Step.{answered_at_once, after_call, called_open, called_invoke, closed_in, facts_of_label, new_instance, opened_as, after_queueing};
 ghost use Rattle.app_side.specs.Represents.{called_of, machine_of, IsCalled};
 
-use crate::side::{AppSide, Taken};
-use alone::{Call, Instance};
+use crate::side::{AppSide, AtOnce, Taken};
+use alone::{Call, Instance, references_refusal};
 use app_api::{Application, Login, Params};
-use instances::{Admission, Refusal, SessionState};
+use instances::{Admission, SessionState};
 use op_queue::QueueAnswer;
 use std::alloc::Global;
 use tee_base::{Code, NoMemory, Origin};
@@ -38,7 +38,7 @@ fn add_instance<A: Application>(
 
 impl<A: Application> AppSide<A> {
     /// A call that is answered at once.
-    fn refuse(&mut self, code: Code, origin: Origin) -> Taken
+    pub(crate) fn answer_at_once(&mut self, code: Code, origin: Origin) -> Taken
         requires { self.old.queue.next < MAX_NUMBER }
         ensures { IsCalled self.new (called_of result) self.old.queue.next
             (answered_at_once (machine_of self.old) code origin) }
@@ -46,7 +46,11 @@ impl<A: Application> AppSide<A> {
         Taken {
             op: self.queue.skip(),
             instance: 0,
-            refusal: Some(Refusal { code, origin }),
+            answer: Some(AtOnce {
+                code,
+                origin,
+                shown: None,
+            }),
         }
     }
 
@@ -69,7 +73,7 @@ impl<A: Application> AppSide<A> {
             Ok(op) => Ok(Taken {
                 op,
                 instance,
-                refusal: None,
+                answer: None,
             }),
             Err(QueueAnswer::Full) => unreachable!(),
             Err(QueueAnswer::NoMemory) => Err(NoMemory),
@@ -167,7 +171,7 @@ impl<A: Application> AppSide<A> {
             Ok(admission) => self.enter_shared(client, label, login, params, admission),
             Err(refusal) => {
                 drop(params);
-                Ok(self.refuse(refusal.code, refusal.origin))
+                Ok(self.answer_at_once(refusal.code, refusal.origin))
             }
         }
     }
@@ -187,15 +191,19 @@ impl<A: Application> AppSide<A> {
     {
         if params.check().is_err() {
             drop(params);
-            return Ok(self.refuse(Code::BAD_PARAMETERS, Origin::Api));
+            return Ok(self.answer_at_once(Code::BAD_PARAMETERS, Origin::Api));
+        }
+        if let Some(code) = references_refusal(&self.blocks, client, &params) {
+            drop(params);
+            return Ok(self.answer_at_once(code, Origin::Api));
         }
         if self.sessions.find(client, label).is_some() {
             drop(params);
-            return Ok(self.refuse(Code::BAD_STATE, Origin::Api));
+            return Ok(self.answer_at_once(Code::BAD_STATE, Origin::Api));
         }
         if self.queue.is_full() {
             drop(params);
-            return Ok(self.refuse(Code::BUSY, Origin::Tee));
+            return Ok(self.answer_at_once(Code::BUSY, Origin::Tee));
         }
         self.enter(client, label, login, params)
     }
@@ -215,25 +223,29 @@ impl<A: Application> AppSide<A> {
     {
         if params.check().is_err() {
             drop(params);
-            return Ok(self.refuse(Code::BAD_PARAMETERS, Origin::Api));
+            return Ok(self.answer_at_once(Code::BAD_PARAMETERS, Origin::Api));
+        }
+        if let Some(code) = references_refusal(&self.blocks, client, &params) {
+            drop(params);
+            return Ok(self.answer_at_once(code, Origin::Api));
         }
         let Some(known) = self.sessions.find(client, label) else {
             drop(params);
-            return Ok(self.refuse(Code::BAD_STATE, Origin::Api));
+            return Ok(self.answer_at_once(Code::BAD_STATE, Origin::Api));
         };
         match known.state {
             SessionState::Opening | SessionState::Closing => {
                 drop(params);
-                Ok(self.refuse(Code::BAD_STATE, Origin::Api))
+                Ok(self.answer_at_once(Code::BAD_STATE, Origin::Api))
             }
             SessionState::Dead => {
                 drop(params);
-                Ok(self.refuse(Code::TARGET_DEAD, Origin::Tee))
+                Ok(self.answer_at_once(Code::TARGET_DEAD, Origin::Tee))
             }
             SessionState::Open => {
                 if self.queue.is_full() {
                     drop(params);
-                    return Ok(self.refuse(Code::BUSY, Origin::Tee));
+                    return Ok(self.answer_at_once(Code::BUSY, Origin::Tee));
                 }
                 let call = Call::Invoke {
                     label,
@@ -254,16 +266,16 @@ impl<A: Application> AppSide<A> {
         ensures err { OnErr result (machine_of self.new ≡ machine_of self.old) }
     {
         let Some(known) = self.sessions.find(client, label) else {
-            return Ok(self.refuse(Code::BAD_STATE, Origin::Api));
+            return Ok(self.answer_at_once(Code::BAD_STATE, Origin::Api));
         };
         match known.state {
-            SessionState::Opening | SessionState::Closing => Ok(self.refuse(
+            SessionState::Opening | SessionState::Closing => Ok(self.answer_at_once(
                 Code::BAD_STATE,
                 Origin::Api,
             )),
             SessionState::Dead => {
                 self.sessions.remove(known.session);
-                Ok(self.refuse(Code::SUCCESS, Origin::Tee))
+                Ok(self.answer_at_once(Code::SUCCESS, Origin::Tee))
             }
             SessionState::Open => {
                 let waiting = self.wait_for(
@@ -282,7 +294,8 @@ impl<A: Application> AppSide<A> {
     #[tactic(auto, unfolding(alone::specs::Step::after_call))]
     #[inline(never)]
     pub(crate) fn serve(&mut self, client: u8, call: Call) -> Result<Taken, NoMemory>
-        requires { self.old.queue.next < MAX_NUMBER }
+        requires room { self.old.queue.next < MAX_NUMBER }
+        requires client { client < MAX_CLIENTS }
         ensures ok { IfOk result (λ waiting.
             IsCalled self.new (called_of waiting) self.old.queue.next
             (after_call (machine_of self.old) client call)) }
@@ -300,6 +313,10 @@ impl<A: Application> AppSide<A> {
                 params,
             } => self.invoke(client, label, command, params),
             Call::Close { label } => self.close(client, label),
+            Call::Share { block, flags, size } => self.share(client, block, flags, size),
+            Call::Fill { block, at, bytes } => self.fill(client, block, at, bytes),
+            Call::Show { block } => self.show(client, block),
+            Call::Unshare { block } => self.unshare(client, block),
         }
     }
 }

@@ -8,6 +8,7 @@ mod operating;
 mod public;
 mod returns;
 mod serving;
+mod sharing;
 mod side;
 mod teardown;
 mod turns;

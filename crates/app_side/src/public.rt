@@ -1,6 +1,6 @@
 //! The calls of a running application, each of them a step of every machine that the value represents.
 
-ghost use Rattle.tee_base.specs.declared.limits.TheConstants.{MAX_NUMBER};
+ghost use Rattle.tee_base.specs.declared.limits.TheConstants.{MAX_CLIENTS, MAX_NUMBER};
 ghost use Rattle.std.specs.Prelude.{◌≡◌, ◌<◌, ◌^◌, ◌+◌, ◌-◌, [], IfOk, OnErr, false, is_some, true};
 ghost use Rattle.store_api.specs.Stores.{Store};
 ghost use Rattle.object_asks.specs.Serving.{TriesOnce};
@@ -19,6 +19,7 @@ use instances::Instances;
 use object_asks::Held;
 use op_queue::OpQueue;
 use operation_asks::Operations;
+use shared_mem::Blocks;
 use std::alloc::Global;
 use store_api::AppStore;
 use tee_base::{Code, NoMemory, Origin, limits};
@@ -49,6 +50,7 @@ impl<A: Application> AppSide<A> {
             turns: 0,
             lost: false,
             in_doubt: false,
+            blocks: Blocks::new(alloc),
             held: Held::new(alloc),
             operations: Operations::new(alloc, seed, application, 0),
         })
@@ -57,6 +59,7 @@ impl<A: Application> AppSide<A> {
     /// A client's call: what it is answered at once, or that it waits for an instance. Want of memory changes nothing, and
     /// drops the call.
     pub fn call(&mut self, client: u8, call: Call) -> Result<Called, NoMemory>
+        requires { client < MAX_CLIENTS }
         ensures ok { IfOk result (λ made.
             (m : Machine A) → Represents self.old m
             → Represents self.new (after_call m client call).machine) }
@@ -246,7 +249,7 @@ impl<A: Application> AppSide<A> {
     }
 
     /// The power came back, with the change in doubt or without it: sessions, instances and unanswered operations are gone
-    /// without a reply, and the storage serves again. It takes no memory.
+    /// without a reply, and the storage serves again. Blocks of shared memory stay. It takes no memory.
     pub fn restart(&mut self, took: bool)
         requires { boot_of self.old < 2 ^ 32 - 1 }
         ensures step { (m : Machine A) → Represents self.old m

@@ -1,22 +1,22 @@
 //! What the return of an entry does.
 
-ghost use Rattle.std.specs.Prelude.{◌≡◌, ℕ, ◌<◌, [], true, if◌then◌else◌, Some, Option, option_map, find};
-ghost use Rattle.instances.specs.Instances.{state_set, session_removed};
+ghost use Rattle.std.specs.Prelude.{◌≡◌, ℕ, ◌<◌, [], OnErr, OnOk, true, Some, Option, option_map, find};
 ghost use Rattle.alone.specs.declared.active_entry.Instance.{Instance};
 ghost use Rattle.alone.specs.Machine.{is_number, with_instance};
-ghost use Rattle.alone.specs.Step.{after_session, after_answer, after_destroy_begins, is_success, masked_again, reply_of, after_return, start_begun};
+ghost use Rattle.alone.specs.Step.{after_session, after_answer, after_destroy_begins, is_success, masked_again, reply_of, after_return, after_start, start_begun};
+ghost use Rattle.alone.specs.Blocks.{delivered_for, given_params, served_by};
 ghost use Rattle.alone.specs.InList.{IsPlace};
 ghost use Rattle.app_side.specs.Represents.{machine_of, IsTurned};
 
 use crate::side::AppSide;
 use alone::{
-    ActiveEntry, Ending, EntryPoint, Instance, Outputs, Places, Replies, Reply, deliver,
-    destroy_entry, start_entry,
+    ActiveEntry, Ending, EntryPoint, Instance, Outputs, Replies, Reply, deliver, deliver_to_blocks,
+    destroy_entry, give_params, start_entry,
 };
 use app_api::{Application, Params};
 use instances::SessionState;
 use std::mem;
-use tee_base::{Code, Origin};
+use tee_base::{Code, NoMemory, Origin};
 
 /// A reply that the application itself gives.
 fn own_reply(op: u64, code: Code, outputs: Outputs) -> Reply
@@ -133,30 +133,52 @@ impl<A: Application> AppSide<A> {
         self.answer(place, number, op, code, outputs, replies);
     }
 
-    /// The start entry of the operation begins, behind a create entry that succeeded.
+    /// What is shown of an entry's outputs is written into the blocks that the call of its operation refers to. It takes no
+    /// memory.
+    fn deliver_to_blocks(&mut self, op: Option<u64>, outputs: &Outputs)
+        ensures { self.new ≡ record self.old {
+          blocks = delivered_for (served_by self.old.queue op) outputs.now self.old.blocks;
+        } }
+    {
+        let Some(op) = op else {
+            return;
+        };
+        if let Some(facts) = self.queue.facts(op) {
+            deliver_to_blocks(&mut self.blocks, facts.client, facts.references, outputs);
+        }
+    }
+
+    /// The start entry of the operation begins, behind a create entry that succeeded, with what its references are now. Want of
+    /// memory changes nothing.
     fn start(
         &mut self,
         place: usize,
         number: u8,
         op: Option<u64>,
         session: u8,
-        params: Params,
-        places: Places,
-    )
+        client: u8,
+        mut params: Params,
+    ) -> Result<(), NoMemory>
         requires { IsPlace number self.old.instances.items place }
-        ensures { (inst : Instance A) → find (is_number number) self.old.instances.items ≡ Some inst
+        ensures ok { OnOk result ((inst : Instance A)
+            → find (is_number number) self.old.instances.items ≡ Some inst
             → machine_of self.new
             ≡ with_instance
             (record (machine_of self.old) { queue = masked_again self.old.queue op })
             (record inst {
               created = true;
-              running = Some (start_begun op session params places);
-            }) }
+              running = Some
+                  (start_begun op session (given_params self.old.blocks client params));
+            })) }
+        ensures err { OnErr result (self.new ≡ self.old) }
     {
+        give_params(&self.blocks, client, &mut params)?;
+        let running = start_entry(self.alloc, op, session, params)?;
         self.mask_again(op);
         let current = &mut self.instances[place];
         current.created = true;
-        set_running(current, Some(start_entry(op, session, params, places)));
+        set_running(current, Some(running));
+        Ok(())
     }
 
     /// A start entry returned: its session is open and the operation answered, or the session is gone.
@@ -173,13 +195,8 @@ impl<A: Application> AppSide<A> {
         requires place { IsPlace number self.old.instances.items place }
         requires none { replies.old ≡ [] }
         ensures { (inst : Instance A) → find (is_number number) self.old.instances.items ≡ Some inst
-            → IsTurned self.new replies.new (if is_success code
-            then after_answer (record (machine_of self.old)
-            { table = state_set self.old.sessions session SessionState.Open })
-            inst op code outputs
-            else after_session (record (machine_of self.old)
-            { table = session_removed self.old.sessions session })
-            inst op code outputs) }
+            → IsTurned self.new replies.new
+            (after_start (machine_of self.old) inst op session code outputs) }
     {
         if is_success(code) {
             self.sessions.set(session, SessionState::Open);
@@ -190,7 +207,7 @@ impl<A: Application> AppSide<A> {
         self.after_session(place, number, op, code, outputs, replies);
     }
 
-    /// The entry returns.
+    /// The entry returns. Want of memory, for what the references of an open are, changes nothing.
     pub(crate) fn end_entry(
         &mut self,
         place: usize,
@@ -199,36 +216,38 @@ impl<A: Application> AppSide<A> {
         stage: EntryPoint,
         ending: Ending,
         replies: &mut Replies,
-    )
+    ) -> Result<(), NoMemory>
         requires place { IsPlace number self.old.instances.items place }
         requires none { replies.old ≡ [] }
-        ensures { (inst : Instance A) → find (is_number number) self.old.instances.items ≡ Some inst
+        ensures ok { OnOk result ((inst : Instance A)
+            → find (is_number number) self.old.instances.items ≡ Some inst
             → inst.number ≡ number
             → IsTurned self.new replies.new
-            (after_return (machine_of self.old) inst op stage ending.code ending.outs) }
+            (after_return (machine_of self.old) inst op stage ending.code ending.outs)) }
+        ensures err { OnErr result ((self.new ≡ self.old) × (replies.new ≡ [])) }
     {
         let Ending { code, outs } = ending;
         match stage {
             EntryPoint::Create {
                 session,
+                client,
                 params,
-                places,
             } => {
                 drop(outs);
                 if is_success(code) {
-                    self.start(place, number, op, session, params, places);
-                } else {
-                    drop(params);
-                    drop(places);
-                    self.tear_down(number, code, Origin::App, replies);
+                    return self.start(place, number, op, session, client, params);
                 }
+                drop(params);
+                self.tear_down(number, code, Origin::App, replies);
             }
             EntryPoint::Start { session, places } => {
                 let outputs = deliver(self.alloc, places, outs);
+                self.deliver_to_blocks(op, &outputs);
                 self.end_start(place, number, op, session, code, outputs, replies);
             }
             EntryPoint::Invoke { places, .. } => {
                 let outputs = deliver(self.alloc, places, outs);
+                self.deliver_to_blocks(op, &outputs);
                 self.answer(place, number, op, code, outputs, replies);
             }
             EntryPoint::Stop { session } => {
@@ -245,5 +264,6 @@ impl<A: Application> AppSide<A> {
                 }
             }
         }
+        Ok(())
     }
 }

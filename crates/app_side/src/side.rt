@@ -1,15 +1,17 @@
 //! What is kept of a running application.
 
 ghost use Rattle.std.specs.Prelude.{◌≡◌};
-ghost use Rattle.app_side.specs.Represents.{called_of};
+ghost use Rattle.app_side.specs.Represents.{called_of, outputs_at_once};
 
-use alone::{Instance, Outputs, Replies, Reply, TurnKind};
+use alone::{Instance, Outputs, Replies, Reply, TurnKind, block_outputs};
 use app_api::{Application, Host};
-use instances::{Instances, Refusal};
+use instances::Instances;
 use object_asks::Held;
 use op_queue::OpQueue;
 use operation_asks::Operations;
+use shared_mem::Blocks;
 use std::alloc::Global;
+use tee_base::{Bytes, Code, Origin};
 
 /// A running application: its instances, its sessions, its unanswered operations, and what asks touch in memory. Its objects
 /// are kept elsewhere.
@@ -29,6 +31,8 @@ pub struct AppSide<A> {
     pub(crate) lost: bool,
     /// Whether a change is in doubt.
     pub(crate) in_doubt: bool,
+    /// The blocks that its clients share with it.
+    pub(crate) blocks: Blocks,
     pub(crate) held: Held,
     pub(crate) operations: Operations,
 }
@@ -43,14 +47,33 @@ pub struct Called {
     pub replies: Replies,
 }
 
-/// A call as it was taken in, without a table of replies: only a refusal is answered at once.
-#[derive(Clone, Copy, Debug)]
+/// How a call is answered at once: a refusal, or a call about shared memory, which may show a block.
+#[derive(Debug, Drop)]
+pub(crate) struct AtOnce {
+    pub(crate) code: Code,
+    pub(crate) origin: Origin,
+    /// The bytes of the block that is shown.
+    pub(crate) shown: Option<Bytes>,
+}
+
+/// A call as it was taken in, without a table of replies.
+#[derive(Debug, Drop)]
 pub(crate) struct Taken {
     /// The number of its operation.
     pub(crate) op: u64,
-    /// The instance for which it waits, 0 where it is refused.
+    /// The instance for which it waits, 0 where it is answered at once.
     pub(crate) instance: u8,
-    pub(crate) refusal: Option<Refusal>,
+    pub(crate) answer: Option<AtOnce>,
+}
+
+/// What a client is shown of a call that is answered at once.
+fn outputs_at_once(shown: Option<Bytes>) -> Outputs
+    ensures { result ≡ outputs_at_once shown }
+{
+    match shown {
+        None => Outputs::nothing(),
+        Some(bytes) => block_outputs(bytes),
+    }
 }
 
 impl Taken {
@@ -64,12 +87,19 @@ impl Taken {
             instance: self.instance,
             replies: Replies::none(),
         };
-        if let Some(Refusal { code, origin }) = self.refusal {
-            called.replies.push(Reply {
-                op: self.op,
+        if let Some(
+            AtOnce {
                 code,
                 origin,
-                outputs: Outputs::nothing(),
+                shown,
+            },
+        ) = self.answer
+        {
+            called.replies.push(Reply {
+                op: called.op,
+                code,
+                origin,
+                outputs: outputs_at_once(shown),
             });
         }
         called

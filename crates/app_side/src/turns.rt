@@ -71,7 +71,7 @@ impl<A: Application> AppSide<A> {
             }
             Some(begun) => {
                 let created = self.instances[place].created;
-                let running = first_entry(self.alloc, created, begun)?;
+                let running = first_entry(self.alloc, &self.blocks, created, begun)?;
                 set_running(&mut self.instances[place], Some(running));
                 Ok(())
             }
@@ -180,7 +180,7 @@ impl<A: Application> AppSide<A> {
         match outcome {
             Outcome::Answered(answer) => self.answer_next(place, number, entry, masked, answer),
             Outcome::Returned(ending) => {
-                self.end_entry(place, number, entry.op, entry.stage, ending, replies)
+                self.end_entry(place, number, entry.op, entry.stage, ending, replies)?;
             }
             Outcome::Panicked => {
                 drop(entry);

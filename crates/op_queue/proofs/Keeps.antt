@@ -9,6 +9,7 @@ use Rattle.std.proofs.lemmas.List.Filters.{sum_by-filter_both}
 use Rattle.std.proofs.lemmas.List.Sums.{sum_by_push, sum_by-cons}
 use Rattle.tee_base.specs.declared.limits.TheConstants.{MAX_SESSIONS, MAX_OPERATIONS}
 use Rattle.app_api.specs.declared.call.Call.{Call}
+use Rattle.app_api.specs.Calls.{call_references}
 use Rattle.op_queue.specs.declared.operation.Operation.{Operation}
 use Rattle.op_queue.specs.declared.operation.Progress.{Progress}
 use Rattle.op_queue.specs.declared.operation.Progress.TheVariants.{Waiting, Running}
@@ -88,7 +89,7 @@ room_for_close q false free old = omega (arith, old.closes)
 pub submitted_IsQueue : (q : Queue) (client instance session : ℕ) (call : Call) → (is_full q && not (is_close_call call)) ≡ false →
     (is_close_call call ≡ true → count_by closes q.operations < MAX_SESSIONS) → IsQueue q → IsQueue (with_operation q client instance session call)
 submitted_IsQueue q client instance session call free few_closes old =
-    let o : Operation = record { number = q.next; client = client; session = session; instance = instance; progress = Waiting call } in
+    let o : Operation = record { number = q.next; client = client; session = session; instance = instance; references = call_references call; progress = Waiting call } in
     record {
       first = omega (arith, old.first);
       few = omega (arith, sum_by_push (λ (o : Operation). cond (is_other o) 1 0) q.operations o, room q (is_close_call call) free old);

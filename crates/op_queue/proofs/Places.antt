@@ -8,6 +8,7 @@ use Rattle.std.proofs.lemmas.List.{get_or-map, length-map, same_lists, get_or_re
 use Rattle.std.proofs.lemmas.List.Quantifiers.{position-Some}
 use Rattle.std.proofs.lemmas.List.Elements.{filter-append}
 use Rattle.std.proofs.lemmas.List.Sums.{fails_before_first}
+use Rattle.app_api.specs.References.{no_references}
 use Rattle.op_queue.specs.declared.operation.Operation.{Operation}
 use Rattle.op_queue.specs.declared.operation.Progress.TheVariants.{Running}
 use Rattle.op_queue.specs.declared.operation.Cancelled.TheVariants.{Dropped, Flagged, Nothing}
@@ -100,7 +101,7 @@ one_removed p xs i d inside here others =
 
 -- any operation, for a place past the end
 any_operation : Operation
-any_operation = record { number = 0; client = 0; session = 0; instance = 0; progress = Running false false true }
+any_operation = record { number = 0; client = 0; session = 0; instance = 0; references = no_references; progress = Running false false true }
 
 -- the operation of one number, taken out
 pub operation_removed : (xs : List Operation) (i n : ℕ) → AllPairs ComesBefore xs → position (λ o. o.number == n) xs ≡ Some i → remove xs i ≡ filter (λ o. not (o.number == n)) xs

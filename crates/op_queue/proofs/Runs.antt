@@ -2,6 +2,7 @@
 use Rattle.std.proofs.Common.{◌≡◌, ◌≢◌, ◌==◌, ℕ, Bool, true, false, not, cond, List, [], ◌∷◌, ◌++◌, Option, None, Some, is_some, find, filter, map, refl, sym, ap, ◌∙◌, ⊎_elim}
 use Rattle.std.proofs.lemmas.Bool.{eqb-true, eq-eqb, ne_eqb, cases_Bool, both_ways}
 use Rattle.app_api.specs.declared.call.Call.{Call}
+use Rattle.app_api.specs.Calls.{call_references}
 use Rattle.op_queue.specs.declared.operation.Operation.{Operation}
 use Rattle.op_queue.specs.declared.operation.Progress.{Progress}
 use Rattle.op_queue.specs.declared.operation.Progress.TheVariants.{Waiting, Running}
@@ -37,7 +38,9 @@ runs_push op (x ∷ xs) y h =
     (cases_Bool (x.number == op))
 
 pub runs-submitted : (q : Queue) (client instance session op : ℕ) (call : Call) → runs q op ≡ true → runs (with_operation q client instance session call) op ≡ true
-runs-submitted q client instance session op call h = runs_push op q.operations (record { number = q.next; client = client; session = session; instance = instance; progress = Waiting call }) h
+runs-submitted q client instance session op call h =
+    let o : Operation = record { number = q.next; client = client; session = session; instance = instance; references = call_references call; progress = Waiting call } in
+    runs_push op q.operations o h
 
 runs_filter : (p : Operation → Bool) (op : ℕ) (xs : List Operation) → ((o : Operation) → o.number ≡ op → p o ≡ true) → runs_in xs op ≡ true → runs_in (filter p xs) op ≡ true
 runs_filter p op [] keeps h = h

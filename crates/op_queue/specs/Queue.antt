@@ -1,9 +1,12 @@
 -- Client operations of one application, and their cancellation (TEE Client API 1.0, sections 4.5.5 to 4.5.8; TEE Internal Core API 1.3, section 4.10).
 use Rattle.std.specs.Prelude.{ℕ, ◌+◌, ◌≤◌, ◌<◌, ◌==◌, nat_le, nat_lt, Bool, true, false, not, ◌&&◌, List, [], ◌∷◌, ◌++◌, Option}
 use Rattle.std.specs.Prelude.{None, Some, option_map, if◌then◌else◌, find, filter, map, count_by, All, AllPairs}
+use Rattle.std.specs.List.{list_any}
 use Rattle.tee_base.specs.declared.limits.TheConstants.{MAX_SESSIONS, MAX_OPERATIONS}
 use Rattle.app_api.specs.declared.call.Call.{Call}
-use Rattle.app_api.specs.declared.call.Call.TheVariants.{Open, Invoke, Close}
+use Rattle.app_api.specs.declared.call.Call.TheVariants.{Open, Invoke, Close, Share, Fill, Show, Unshare}
+use Rattle.app_api.specs.Calls.{call_references}
+use Rattle.app_api.specs.References.{name_block}
 use Rattle.op_queue.specs.declared.operation.Operation.{Operation}
 use Rattle.op_queue.specs.declared.operation.OpFacts.{OpFacts}
 use Rattle.op_queue.specs.declared.operation.Begun.{Begun}
@@ -27,6 +30,10 @@ abbrev pub is_close_call : Call → Bool
 is_close_call (Open label login params) = false
 is_close_call (Invoke label command params) = false
 is_close_call (Close label) = true
+is_close_call (Share block flags size) = false
+is_close_call (Fill block at bytes) = false
+is_close_call (Show block) = false
+is_close_call (Unshare block) = false
 
 -- the operation, which waits or runs, closes a session
 abbrev pub is_close : Progress → Bool
@@ -42,11 +49,18 @@ is_running (Running close cancelled masked) = true
 abbrev pub is_full : Queue → Bool
 is_full q = nat_le MAX_OPERATIONS (count_by (λ o. not (is_close o.progress)) q.operations)
 
--- one more operation, which waits
+-- one more operation, which waits. What its call refers to is known of it until it is answered
 abbrev pub with_operation : Queue → ℕ → InstanceNumber → ℕ → Call → Queue
 with_operation q client instance session call = record {
   next = q.next + 1;
-  operations = q.operations ++ record { number = q.next; client = client; session = session; instance = instance; progress = Waiting call } ∷ [];
+  operations = q.operations ++ record {
+    number = q.next;
+    client = client;
+    session = session;
+    instance = instance;
+    references = call_references call;
+    progress = Waiting call;
+  } ∷ [];
 }
 
 -- the next number is used up
@@ -59,7 +73,7 @@ waits_for instance o = (o.instance == instance) && not (is_running o.progress)
 
 -- the call of an operation that waits, ready to be run
 abbrev pub begun_of : Operation → Progress → Option Begun
-begun_of o (Waiting call) = Some (record { op = o.number; session = o.session; call = call })
+begun_of o (Waiting call) = Some (record { op = o.number; client = o.client; session = o.session; call = call })
 begun_of o (Running close cancelled masked) = None
 
 -- the instance's operation with the least number that waits
@@ -84,9 +98,24 @@ after_begin q (Some o) = record q { operations = map (as_running o.number) q.ope
 abbrev pub operation_of : Queue → ℕ → Option Operation
 operation_of q op = find (λ o. o.number == op) q.operations
 
+-- the operation is the client's, and names its block of this number
+abbrev pub is_naming : ℕ → ℕ → Operation → Bool
+is_naming client block o = (o.client == client) && name_block block o.references
+
+-- an unanswered operation of the client names its block of this number
+abbrev pub is_named : Queue → ℕ → ℕ → Bool
+is_named q client block = list_any (is_naming client block) q.operations
+
 -- what is told of an operation
 abbrev pub facts_of : Operation → OpFacts
-facts_of o = record { client = o.client; instance = o.instance; session = o.session; running = is_running o.progress; close = is_close o.progress }
+facts_of o = record {
+  client = o.client;
+  instance = o.instance;
+  session = o.session;
+  references = o.references;
+  running = is_running o.progress;
+  close = is_close o.progress;
+}
 
 -- the least unanswered number of the instance that is greater
 abbrev pub next_of : Queue → InstanceNumber → ℕ → Option ℕ

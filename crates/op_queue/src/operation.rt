@@ -3,7 +3,7 @@
 ghost use Rattle.std.specs.Prelude.{◌≡◌};
 ghost use Rattle.op_queue.specs.Queue as queue;
 
-use app_api::Call;
+use app_api::{Call, References};
 use std::mem;
 use thiserror::Error;
 
@@ -74,18 +74,27 @@ pub struct Operation {
     pub client: u8,
     pub session: u8,
     pub instance: u8,
+    /// What its call refers to, also once the call was handed out.
+    pub references: References,
     pub progress: Progress,
 }
 
 impl Operation {
     ghost use Rattle.std.specs.Prelude.{◌≡◌, Option};
-    ghost use Rattle.op_queue.specs.Queue.{facts_of, begun_of, waits_for, as_running, as_requested, masked_as, mask_of};
+    ghost use Rattle.op_queue.specs.Queue.{facts_of, begun_of, is_naming, waits_for, as_running, as_requested, masked_as, mask_of};
 
     /// Whether it is the instance's, and waits.
     pub fn waits_for(&self, instance: u8) -> bool
         ensures { result ≡ waits_for instance self.now }
     {
         self.instance == instance && !self.progress.is_running()
+    }
+
+    /// Whether it is the client's, and names its block of this number.
+    pub fn is_naming(&self, client: u8, block: u32) -> bool
+        ensures { result ≡ is_naming client block self.now }
+    {
+        self.client == client && self.references.name(block)
     }
 
     /// What is told of it.
@@ -96,6 +105,7 @@ impl Operation {
             client: self.client,
             instance: self.instance,
             session: self.session,
+            references: self.references,
             running: self.progress.is_running(),
             close: self.progress.is_close(),
         }
@@ -115,6 +125,7 @@ impl Operation {
         match mem::replace(&mut self.progress, running) {
             Progress::Waiting(call) => Some(Begun {
                 op: self.number,
+                client: self.client,
                 session: self.session,
                 call,
             }),
@@ -147,6 +158,7 @@ impl Operation {
 #[derive(Debug, Drop)]
 pub struct Begun {
     pub op: u64,
+    pub client: u8,
     pub session: u8,
     pub call: Call,
 }
@@ -157,6 +169,7 @@ pub struct OpFacts {
     pub client: u8,
     pub instance: u8,
     pub session: u8,
+    pub references: References,
     pub running: bool,
     pub close: bool,
 }

@@ -30,7 +30,7 @@ impl Model for OpQueue {
 }
 
 impl OpQueue {
-    ghost use Rattle.op_queue.specs.Queue.{Queue, IsQueue, empty_queue, is_close_call, is_full, with_operation, with_number_used, first_waiting, begun_at, after_begin, operation_of, facts_of, next_of, cancel_of, after_cancel, mask_at, mask_set, flag_of, without, without_operations_of, without_operations};
+    ghost use Rattle.op_queue.specs.Queue.{Queue, IsQueue, empty_queue, is_close_call, is_full, with_operation, with_number_used, first_waiting, begun_at, after_begin, operation_of, facts_of, is_named, next_of, cancel_of, after_cancel, mask_at, mask_set, flag_of, without, without_operations_of, without_operations};
 
     /// No operations yet; the first will have the number 1.
     pub fn new(alloc: Global) -> OpQueue
@@ -89,6 +89,7 @@ impl OpQueue {
             client,
             session,
             instance,
+            references: call.references(),
             progress: Progress::Waiting(call),
         };
         if self.operations.push(operation).is_err() {
@@ -127,6 +128,13 @@ impl OpQueue {
             .iter()
             .find(|o| o.number == op)
             .map(|o| o.facts())
+    }
+
+    /// Whether an unanswered operation of the client names its block of this number.
+    pub fn is_named(&self, client: u8, block: u32) -> bool
+        ensures { result ≡ is_named self.now client block }
+    {
+        self.operations.iter().any(|o| o.is_naming(client, block))
     }
 
     /// The least unanswered number of the instance that is greater.

@@ -80,6 +80,9 @@ fn try_post<V: Volume, A: Application>(
             params,
         } => shared.invoke(pass, *label, *command, params),
         Call::Close { label } => shared.close_session(pass, *label),
+        Call::Share { .. } | Call::Fill { .. } | Call::Show { .. } | Call::Unshare { .. } => {
+            shared.memory(pass, call)
+        }
     }
 }
 

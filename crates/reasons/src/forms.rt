@@ -48,6 +48,30 @@ const CALLS: Number = Number {
     high: limits::MAX_FUSE_CALLS as u64,
 };
 
+const BLOCK: Number = Number {
+    name: "a block",
+    low: 0,
+    high: MAX_32,
+};
+
+const FLAGS: Number = Number {
+    name: "flags",
+    low: 0,
+    high: MAX_32,
+};
+
+const SIZE: Number = Number {
+    name: "a size",
+    low: 0,
+    high: MAX_32,
+};
+
+const PLACE: Number = Number {
+    name: "a place in the block",
+    low: 0,
+    high: MAX_32,
+};
+
 const PICK: Number = Number {
     name: "a number",
     low: 0,
@@ -74,6 +98,8 @@ pub enum Rest {
     Nothing,
     Parameters,
     LoginAndParameters,
+    /// The bytes of one word, at least one.
+    Bytes,
 }
 
 /// The words of a line from its verb on.
@@ -114,6 +140,30 @@ const CANCEL: Form = Form {
     rest: Rest::Nothing,
 };
 
+const SHARE: Form = Form {
+    verb: b"share",
+    numbers: &[BLOCK, FLAGS, SIZE],
+    rest: Rest::Nothing,
+};
+
+const FILL: Form = Form {
+    verb: b"fill",
+    numbers: &[BLOCK, PLACE],
+    rest: Rest::Bytes,
+};
+
+const SHOW: Form = Form {
+    verb: b"show",
+    numbers: &[BLOCK],
+    rest: Rest::Nothing,
+};
+
+const UNSHARE: Form = Form {
+    verb: b"unshare",
+    numbers: &[BLOCK],
+    rest: Rest::Nothing,
+};
+
 const FUSE: Form = Form {
     verb: b"fuse",
     numbers: &[CALLS],
@@ -141,8 +191,10 @@ pub const CLIENT: &Form = &Form {
 
 /// What a client does to an application.
 pub const APP_VERBS: &Verbs = &Verbs {
-    names: "open, invoke, close, post, turn or cancel",
-    forms: &[OPEN, INVOKE, CLOSE, TURN, CANCEL],
+    names: "open, invoke, close, post, turn, cancel, share, fill, show or unshare",
+    forms: &[
+        OPEN, INVOKE, CLOSE, TURN, CANCEL, SHARE, FILL, SHOW, UNSHARE,
+    ],
 };
 
 /// The call after `post`.
@@ -161,12 +213,10 @@ pub const BOARD_VERBS: &Verbs = &Verbs {
 #[derive(Clone, Copy)]
 pub enum Parts {
     Nothing,
-    /// Two numbers.
-    Value,
+    /// So many numbers of 32 bits.
+    Numbers(usize),
     /// Bytes.
     Memory,
-    /// A size.
-    Room,
     /// A size and a byte.
     Fill,
 }
@@ -186,7 +236,12 @@ const MEMORY: &str = "two hexadecimal digits for each byte after it";
 
 const ROOM: &str = "a size after it, in decimal digits from 0 to 4294967295";
 
-const FILL: &str = "a size from 0 to 524288 and a byte of two hexadecimal digits after it";
+const WHOLE: &str = "a block after it, in decimal digits from 0 to 4294967295";
+
+const PART: &str =
+    "a block, a place in it and a size after it, each in decimal digits from 0 to 4294967295";
+
+const FILLED: &str = "a size from 0 to 524288 and a byte of two hexadecimal digits after it";
 
 const _: () = prove!(limits::MAX_ASK_BYTES == 524_288);
 
@@ -199,7 +254,7 @@ pub const KINDS: &[Kind] = &[
     },
     Kind {
         word: b"vi",
-        parts: Parts::Value,
+        parts: Parts::Numbers(2),
         wanted: VALUE,
     },
     Kind {
@@ -209,7 +264,7 @@ pub const KINDS: &[Kind] = &[
     },
     Kind {
         word: b"vio",
-        parts: Parts::Value,
+        parts: Parts::Numbers(2),
         wanted: VALUE,
     },
     Kind {
@@ -225,11 +280,31 @@ pub const KINDS: &[Kind] = &[
     Kind {
         word: b"mf",
         parts: Parts::Fill,
-        wanted: FILL,
+        wanted: FILLED,
     },
     Kind {
         word: b"mo",
-        parts: Parts::Room,
+        parts: Parts::Numbers(1),
         wanted: ROOM,
+    },
+    Kind {
+        word: b"sw",
+        parts: Parts::Numbers(1),
+        wanted: WHOLE,
+    },
+    Kind {
+        word: b"si",
+        parts: Parts::Numbers(3),
+        wanted: PART,
+    },
+    Kind {
+        word: b"so",
+        parts: Parts::Numbers(3),
+        wanted: PART,
+    },
+    Kind {
+        word: b"sio",
+        parts: Parts::Numbers(3),
+        wanted: PART,
     },
 ];

@@ -7,7 +7,7 @@ use crate::forms::{
     APP_VERBS, BOARD_VERBS, CLIENT, Form, GROUP, KINDS, MAX_32, POSTED_VERBS, Parts, Rest, USER,
     Verbs,
 };
-use crate::wanted::{APPLICATION, END, LOGIN_OR_PARAMETER, Number, PARAMETER, Wanted};
+use crate::wanted::{APPLICATION, BYTES, END, LOGIN_OR_PARAMETER, Number, PARAMETER, Wanted};
 use app_api::Host;
 use script::read_number;
 use std::alloc::{AllocError, Global};
@@ -85,13 +85,22 @@ fn is_fill(size: &[u8], byte: &[u8]) -> bool {
     is_within(size, 0, u64::from(limits::MAX_ASK_BYTES)) && byte.len() == 2 && is_hex(byte)
 }
 
+/// Whether each part is a number of 32 bits.
+fn are_numbers(parts: &[&[u8]]) -> bool {
+    for part in parts {
+        if !is_within(part, 0, MAX_32) {
+            return false;
+        }
+    }
+    true
+}
+
 /// Whether these parts are what stands after a parameter's kind.
 fn parts_fit(parts: &[&[u8]], wanted: Parts) -> bool {
     match (wanted, parts) {
         (Parts::Nothing, []) => true,
-        (Parts::Value, [a, b]) => is_within(a, 0, MAX_32) && is_within(b, 0, MAX_32),
+        (Parts::Numbers(count), _) => parts.len() == count && are_numbers(parts),
         (Parts::Memory, [bytes]) => is_hex(bytes),
-        (Parts::Room, [size]) => is_within(size, 0, MAX_32),
         (Parts::Fill, [size, byte]) => is_fill(size, byte),
         _ => false,
     }
@@ -182,6 +191,14 @@ fn opener_misfit(alloc: Global, words: &[&[u8]], place: usize) -> Found {
     }
 }
 
+/// Looks for the bytes at this place, and the end of the line after them.
+fn bytes_misfit(words: &[&[u8]], place: usize) -> Option<Misfit> {
+    match words.get(place) {
+        Some(digits) if is_hex(digits) => end_misfit(words, place.saturating_add(1)),
+        _ => wants(place, Wanted::Words(BYTES)),
+    }
+}
+
 /// Looks for these numbers from this place on.
 fn numbers_misfit(words: &[&[u8]], place: usize, numbers: &'static [Number]) -> Option<Misfit> {
     for (index, number) in numbers.iter().enumerate() {
@@ -203,6 +220,7 @@ fn form_misfit(alloc: Global, words: &[&[u8]], place: usize, form: &'static Form
         Rest::Nothing => Ok(end_misfit(words, place)),
         Rest::Parameters => parameters_misfit(alloc, words, place, PARAMETER),
         Rest::LoginAndParameters => opener_misfit(alloc, words, place),
+        Rest::Bytes => Ok(bytes_misfit(words, place)),
     }
 }
 

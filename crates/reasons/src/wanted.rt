@@ -23,13 +23,16 @@ pub enum Wanted {
 }
 
 /// Parameters of each form.
-pub const PARAMETER: &str = "-, vi:A:B, vo, vio:A:B, mi:HEX, mio:HEX, mf:SIZE:HH or mo:SIZE";
+pub const PARAMETER: &str =
+    "-, vi:A:B, vo, vio:A:B, mi:HEX, mio:HEX, mf:SIZE:HH, mo:SIZE, sw:B, si:B:AT:SIZE, so:B:AT:SIZE or sio:B:AT:SIZE";
 /// A login or a parameter of each form.
 pub const LOGIN_OR_PARAMETER: &str =
-    "user:U, group:G, app:ID, -, vi:A:B, vo, vio:A:B, mi:HEX, mio:HEX, mf:SIZE:HH or mo:SIZE";
+    "user:U, group:G, app:ID, -, vi:A:B, vo, vio:A:B, mi:HEX, mio:HEX, mf:SIZE:HH, mo:SIZE, sw:B, si:B:AT:SIZE, so:B:AT:SIZE or sio:B:AT:SIZE";
 /// Of a login `app`.
 pub const APPLICATION: &str =
     "an identifier after it: 32 hexadecimal digits, also with hyphens, in braces or after urn:uuid:";
+/// Of the bytes of a line `fill`. A word has one character at least, so they are one byte at least.
+pub const BYTES: &str = "two hexadecimal digits for each byte";
 /// After the last word that a line may have.
 pub const END: &str = "nothing more";
 

@@ -11,7 +11,8 @@ use Rattle.app_api.specs.declared.call.Call.{Call}
 use Rattle.app_api.specs.declared.call.Call.TheVariants as calls
 use Rattle.app_api.specs.declared.login.Login.{Login}
 use Rattle.app_api.specs.declared.param.Params.{Params}
-use Rattle.app_api.specs.Params.{first_oversized}
+use Rattle.app_api.specs.Calls.{call_references}
+use Rattle.app_api.specs.Params.{first_oversized, references_of}
 use Rattle.instances.specs.declared.instances.Admission.{Admission}
 use Rattle.instances.specs.declared.instances.Refusal.{Refusal}
 use Rattle.instances.specs.declared.session.Session.{Session}
@@ -20,17 +21,21 @@ use Rattle.instances.specs.declared.session.SessionState.TheVariants.{Opening, O
 use Rattle.instances.specs.Instances.{Table, session_of, facts_of, is_known_as, admission_of, with_session, state_set, session_removed, with_state}
 use Rattle.op_queue.specs.declared.operation.Operation.{Operation}
 use Rattle.op_queue.specs.declared.operation.Progress.TheVariants.{Waiting}
-use Rattle.op_queue.specs.Queue.{Queue, IsQueue, is_full}
+use Rattle.op_queue.specs.Queue.{Queue, IsQueue, is_full, is_named, with_number_used}
+use Rattle.shared_mem.specs.declared.block.Block.{Block}
+use Rattle.shared_mem.specs.Blocks.{fill_of, share_of, show_of, unshare_of}
 use Rattle.alone.specs.declared.active_entry.Instance.{Instance}
+use Rattle.alone.specs.declared.reply.Reply.{Reply}
+use Rattle.alone.specs.Blocks.{references_refusal}
 use Rattle.alone.specs.Machine.{Machine}
 use Rattle.alone.specs.Step.{Stepped, after_admission, answered_at_once, after_call, called_open, closed_at, closed_in, invoked_at, invoked_in, facts_of_label}
-use Rattle.alone.specs.Step.{new_instance, opened_as, after_queueing}
+use Rattle.alone.specs.Step.{block_shown, invoked_with, memory_done, new_instance, opened_as, opened_with, after_queueing}
 use Rattle.alone.proofs.Totals.{bit, alike, each_from_index, found_counts, having, total, total_both, total_le, total_le_each, total_map, total_once, total_push, total_zero}
 use Rattle.alone.proofs.Each.{each_more, each_weaker}
 use Rattle.alone.proofs.Changed.{operation_number}
 use Rattle.alone.proofs.Sessions.{both, not_of, session_number, sessions_once, set_others}
 use Rattle.alone.proofs.Sound.{IsSoundMachine}
-use Rattle.reply_laws.proofs.Keeping.{EntryFits, IsKeeping, IsKeepingMachine, IsRepliedBy, lives_removed, not_open, removed_keeps}
+use Rattle.reply_laws.proofs.Keeping.{EntryFits, IsKeeping, IsKeepingMachine, IsReplied, IsRepliedBy, lives_removed, not_open, removed_keeps}
 use Rattle.reply_laws.proofs.Weights.{any_call, closers, created_at, createds, entries, invokes, is_closer, is_invoke, is_invoke_at, is_live, is_open, live_at, lives, never}
 use Rattle.reply_laws.proofs.Weights.{numbered, open_at, opens, serves, waiters, waits_as, waits_numbered}
 
@@ -76,8 +81,9 @@ none_further q n h le =
 
 -- ---- a call is answered at once, or waits
 
-at_once : {A : Type 0} (m : Machine A) (t : Table) (code : Code) (origin : Origin) → IsKeeping m.queue t m.instances → IsRepliedBy m (answered_at_once (record m { table = t }) code origin)
-at_once m t code origin k = record {
+-- it only uses a number, whatever it is replied
+uses_number : {A : Type 0} (m : Machine A) (t : Table) (replies : List Reply) → IsKeeping m.queue t m.instances → IsReplied m.queue (with_number_used m.queue) t m.instances replies
+uses_number m t replies k = record {
   keeps = record {
     invoked = k.invoked;
     created = k.created;
@@ -88,9 +94,19 @@ at_once m t code origin k = record {
   each = λ n some. omega (arith, some);
 }
 
+at_once : {A : Type 0} (m : Machine A) (t : Table) (code : Code) (origin : Origin) → IsKeeping m.queue t m.instances → IsRepliedBy m (answered_at_once (record m { table = t }) code origin)
+at_once m t code origin k = uses_number m t _ k
+
 -- what is submitted
 abbrev waiter : Queue → ℕ → ℕ → ℕ → Call → Operation
-waiter q client i session call = record { number = q.next; client = client; session = session; instance = i; progress = Waiting call }
+waiter q client i session call = record {
+  number = q.next;
+  client = client;
+  session = session;
+  instance = i;
+  references = call_references call;
+  progress = Waiting call;
+}
 
 waits : {A : Type 0} (m : Machine A) (t : Table) (xs : List (Instance A)) (client i session : ℕ) (call : Call) → IsQueue m.queue → IsKeepingMachine m
     → ((s j k : ℕ) → 1 ≤ invokes s j k m.queue.operations + bit (is_invoke_at s j k (waiter m.queue client i session call))
@@ -292,19 +308,24 @@ module _ {A : Type 0} where
   opens_as m client label login ps h k (Err refusal) = at_once m m.table refusal.code refusal.origin k
   opens_as m client label login ps h k (Ok a) = opens_admitted m client label login ps a h.queue k
 
-  takes_open : (m : Machine A) (client label : ℕ) (login : Login) (ps : Params) → IsSoundMachine m → IsKeepingMachine m → IsRepliedBy m (called_open m client label login ps)
-  takes_open m client label login ps h k =
+  opens_with : (m : Machine A) (client label : ℕ) (login : Login) (ps : Params) → IsSoundMachine m → IsKeepingMachine m → (refused : Option Code)
+      → IsRepliedBy m (opened_with m client label login ps refused)
+  opens_with m client label login ps h k (Some code) = at_once m m.table code Api k
+  opens_with m client label login ps h k None =
       let P : Stepped A → Type 0 = IsRepliedBy m in
       let last = opened_as m client label login ps (admission_of m.table client label) in
-      let third = cond (is_full m.queue) (answered_at_once m BUSY Tee) last in
-      let second = cond (is_some (facts_of_label m client label)) (answered_at_once m BAD_STATE Api) third in
-      cond_both (is_some (first_oversized ps)) (answered_at_once m BAD_PARAMETERS Api) second P
-      (λ _. at_once m m.table BAD_PARAMETERS Api k)
-      (λ _. cond_both (is_some (facts_of_label m client label)) (answered_at_once m BAD_STATE Api) third P
+      cond_both (is_some (facts_of_label m client label)) (answered_at_once m BAD_STATE Api) (cond (is_full m.queue) (answered_at_once m BUSY Tee) last) P
       (λ _. at_once m m.table BAD_STATE Api k)
       (λ _. cond_both (is_full m.queue) (answered_at_once m BUSY Tee) last P
       (λ _. at_once m m.table BUSY Tee k)
-      (λ _. opens_as m client label login ps h k (admission_of m.table client label))))
+      (λ _. opens_as m client label login ps h k (admission_of m.table client label)))
+
+  takes_open : (m : Machine A) (client label : ℕ) (login : Login) (ps : Params) → IsSoundMachine m → IsKeepingMachine m → IsRepliedBy m (called_open m client label login ps)
+  takes_open m client label login ps h k =
+      let refused : Option Code = references_refusal m.blocks client (references_of ps) in
+      cond_both (is_some (first_oversized ps)) (answered_at_once m BAD_PARAMETERS Api) (opened_with m client label login ps refused) (IsRepliedBy m)
+      (λ _. at_once m m.table BAD_PARAMETERS Api k)
+      (λ _. opens_with m client label login ps h k refused)
 
   invokes_at : (m : Machine A) (client label command : ℕ) (ps : Params) (s : Session) → IsSoundMachine m → IsKeepingMachine m → session_of m.table client label ≡ Some s
       → (state : SessionState) → s.state ≡ state → IsRepliedBy m (invoked_at m client (calls.Invoke label command ps) (facts_of s) state)
@@ -321,6 +342,11 @@ module _ {A : Type 0} where
   invokes_in m client label command ps h k None e = at_once m m.table BAD_STATE Api k
   invokes_in m client label command ps h k (Some s) e = invokes_at m client label command ps s h k e s.state refl
 
+  invokes_with : (m : Machine A) (client label command : ℕ) (ps : Params) → IsSoundMachine m → IsKeepingMachine m → (refused : Option Code)
+      → IsRepliedBy m (invoked_with m client label command ps refused)
+  invokes_with m client label command ps h k (Some code) = at_once m m.table code Api k
+  invokes_with m client label command ps h k None = invokes_in m client label command ps h k (session_of m.table client label) refl
+
   closes_at : (m : Machine A) (client label : ℕ) (s : Session) → IsSoundMachine m → IsKeepingMachine m → session_of m.table client label ≡ Some s → (state : SessionState)
       → s.state ≡ state → IsRepliedBy m (closed_at m client label (facts_of s) state)
   closes_at m client label s h k e Opening was = at_once m m.table BAD_STATE Api k
@@ -333,11 +359,25 @@ module _ {A : Type 0} where
   closes_in m client label h k None e = at_once m m.table BAD_STATE Api k
   closes_in m client label h k (Some s) e = closes_at m client label s h k e s.state refl
 
+  -- a call about shared memory is answered at once
+  shares : (m : Machine A) → IsKeepingMachine m → (r : Result (List Block) Code) → IsRepliedBy m (memory_done m r)
+  shares m k (Ok blocks) = at_once m m.table SUCCESS Api k
+  shares m k (Err code) = at_once m m.table code Api k
+
+  shows : (m : Machine A) → IsKeepingMachine m → (r : Result (List ℕ) Code) → IsRepliedBy m (block_shown m r)
+  shows m k (Ok bytes) = uses_number m m.table _ k
+  shows m k (Err code) = at_once m m.table code Api k
+
   pub call_replied : (m : Machine A) (client : ℕ) (call : Call) → IsSoundMachine m → IsKeepingMachine m → IsRepliedBy m (after_call m client call)
   unfolding after_call
   call_replied m client (calls.Open label login ps) h k = takes_open m client label login ps h k
   call_replied m client (calls.Invoke label command ps) h k =
-      cond_both (is_some (first_oversized ps)) (answered_at_once m BAD_PARAMETERS Api) (invoked_in m client (calls.Invoke label command ps) (facts_of_label m client label)) (IsRepliedBy m)
+      let refused : Option Code = references_refusal m.blocks client (references_of ps) in
+      cond_both (is_some (first_oversized ps)) (answered_at_once m BAD_PARAMETERS Api) (invoked_with m client label command ps refused) (IsRepliedBy m)
       (λ _. at_once m m.table BAD_PARAMETERS Api k)
-      (λ _. invokes_in m client label command ps h k (session_of m.table client label) refl)
+      (λ _. invokes_with m client label command ps h k refused)
   call_replied m client (calls.Close label) h k = closes_in m client label h k (session_of m.table client label) refl
+  call_replied m client (calls.Share block flags size) h k = shares m k (share_of m.blocks client block flags size)
+  call_replied m client (calls.Fill block at bytes) h k = shares m k (fill_of m.blocks client block at bytes)
+  call_replied m client (calls.Show block) h k = shows m k (show_of m.blocks client block)
+  call_replied m client (calls.Unshare block) h k = shares m k (unshare_of m.blocks client block (is_named m.queue client block))

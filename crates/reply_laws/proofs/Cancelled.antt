@@ -88,6 +88,10 @@ call_claims : (session i : ℕ) (call : Call) (n j : ℕ) → open_of_call sessi
 call_claims session i (calls.Open label login ps) n j e = ap (option_map (λ o. facts o.0 o.1 Opening)) e
 call_claims session i (calls.Invoke label command ps) n j e = absurd (nothing_found (n, j) e)
 call_claims session i (calls.Close label) n j e = absurd (nothing_found (n, j) e)
+call_claims session i (calls.Share block flags size) n j e = absurd (nothing_found (n, j) e)
+call_claims session i (calls.Fill block at bytes) n j e = absurd (nothing_found (n, j) e)
+call_claims session i (calls.Show block) n j e = absurd (nothing_found (n, j) e)
+call_claims session i (calls.Unshare block) n j e = absurd (nothing_found (n, j) e)
 
 progress_claims : (session i : ℕ) (progress : Progress) (n j : ℕ) → open_of_progress session i progress ≡ Some (n, j) → claim_of_progress session i progress ≡ Some (facts n j Opening)
 progress_claims session i (Waiting call) n j e = call_claims session i call n j e
@@ -200,7 +204,7 @@ module _ {A : Type 0} (m : Machine A) (op : ℕ) (o : Operation) (h : IsSoundMac
     idle_entry inst at none (Some r) e creating = absurd (creates r.stage refl creating)
       where
         creates : (stage : EntryPoint) → r.stage ≡ stage → IsCreate stage → ⊥
-        creates (stages.Create session ps places) is creating =
+        creates (stages.Create session client ps) is creating =
             let claims : claim_in inst ≡ Some (facts session inst.number Opening) = ap (claim_of_entry inst.number) e ∙ ap (claim_of_stage inst.number) is in
             let some = found_counts (λ (x : Instance A). weigh (counts_in j) (claim_in x)) (is_number j) m.instances inst at in
             omega (arith, some, none, ap (weigh (counts_in j)) claims, ap (λ b. bit (b && true)) (eq-eqb inst.number j (found_number j m.instances inst at)))

@@ -36,6 +36,10 @@ closer_claims s i k number instance session (Waiting (calls.Close label)) = clai
     claims true true false = omega arith
     claims true false c = omega arith
     claims false b c = omega arith
+closer_claims s i k number instance session (Waiting (calls.Share block flags size)) = omega (arith, never (nat_lt k number && (instance == i) && (session == s)))
+closer_claims s i k number instance session (Waiting (calls.Fill block at bytes)) = omega (arith, never (nat_lt k number && (instance == i) && (session == s)))
+closer_claims s i k number instance session (Waiting (calls.Show block)) = omega (arith, never (nat_lt k number && (instance == i) && (session == s)))
+closer_claims s i k number instance session (Waiting (calls.Unshare block)) = omega (arith, never (nat_lt k number && (instance == i) && (session == s)))
 closer_claims s i k number instance session (Runs close cancelled masked) = omega (arith, never (nat_lt k number && (instance == i) && (session == s)))
 
 pub closers_claim : (s i k : ℕ) (os : List Operation) → closers s i k os ≤ held_by (counts_in i) os
@@ -61,6 +65,15 @@ all_true : (a b c d : Bool) → a ≡ true → b ≡ true → c ≡ true → d �
 all_true a b c d first second third fourth =
     ap (λ x. bit (x && b && c && d)) first ∙ ap (λ x. bit (true && x && c && d)) second ∙ ap (λ x. bit (true && true && x && d)) third ∙ ap (λ x. bit (true && true && true && x)) fourth
 
+-- an invoke that waits for the instance is one of it
+invoke_waits : (i : ℕ) (o : Operation) → waits_as is_invoke o.progress ≡ true → waits_for i o ≡ true → 1 ≤ bit (is_invoke_at o.session i o.number o)
+invoke_waits i o is waits_so =
+    let own = (and_parts (o.instance == i) (not (is_running o.progress)) waits_so).0 in
+    omega (
+      arith,
+      all_true (o.number == o.number) (o.instance == i) (o.session == o.session) (waits_as is_invoke o.progress) (eq-eqb o.number o.number refl) own (eq-eqb o.session o.session refl) is,
+    )
+
 -- what waits for the instance claims a session of it, or is an invoke
 waits_claims : (i : ℕ) (o : Operation) (progress : Progress) → o.progress ≡ progress → waits_for i o ≡ true
     → (1 ≤ weigh (counts_in i) (claim_of o)) ⊎ (1 ≤ bit (is_invoke_at o.session i o.number o))
@@ -70,13 +83,11 @@ waits_claims i o (Waiting (calls.Open label login ps)) e waits_so =
 waits_claims i o (Waiting (calls.Close label)) e waits_so =
     let own = (and_parts (o.instance == i) (not (is_running o.progress)) waits_so).0 in
     inl (omega (arith, ap (λ p. weigh (counts_in i) (claim_of_progress o.session o.instance p)) e, ap (λ b. bit (b && true)) own))
-waits_claims i o (Waiting (calls.Invoke label command ps)) e waits_so =
-    let own = (and_parts (o.instance == i) (not (is_running o.progress)) waits_so).0 in
-    inr (omega (
-      arith,
-      all_true (o.number == o.number) (o.instance == i) (o.session == o.session) (waits_as is_invoke o.progress) (eq-eqb o.number o.number refl) own (eq-eqb o.session o.session refl)
-          (ap (waits_as is_invoke) e),
-    ))
+waits_claims i o (Waiting (calls.Invoke label command ps)) e waits_so = inr (invoke_waits i o (ap (waits_as is_invoke) e) waits_so)
+waits_claims i o (Waiting (calls.Share block flags size)) e waits_so = inr (invoke_waits i o (ap (waits_as is_invoke) e) waits_so)
+waits_claims i o (Waiting (calls.Fill block at bytes)) e waits_so = inr (invoke_waits i o (ap (waits_as is_invoke) e) waits_so)
+waits_claims i o (Waiting (calls.Show block)) e waits_so = inr (invoke_waits i o (ap (waits_as is_invoke) e) waits_so)
+waits_claims i o (Waiting (calls.Unshare block)) e waits_so = inr (invoke_waits i o (ap (waits_as is_invoke) e) waits_so)
 waits_claims i o (Runs close cancelled masked) e waits_so =
     absurd (both_ways (not (is_running o.progress)) (ap (λ p. not (is_running p)) e) (and_parts (o.instance == i) (not (is_running o.progress)) waits_so).1)
 

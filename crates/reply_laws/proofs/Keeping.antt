@@ -32,7 +32,7 @@ use Rattle.reply_laws.proofs.Weights.{waiters}
 
 -- it is a create entry
 abbrev pub IsCreate : EntryPoint → Type 0
-IsCreate (stages.Create session ps places) = Unit {0}
+IsCreate (stages.Create session client ps) = Unit {0}
 IsCreate (stages.Start session places) = ⊥
 IsCreate (stages.Invoke session places) = ⊥
 IsCreate (stages.Stop session) = ⊥
@@ -50,7 +50,7 @@ replied (Some reply) = Some reply.op
 
 -- a destroy entry keeps the reply to its operation
 abbrev pub FitsReply : Option ℕ → EntryPoint → Type 0
-FitsReply op (stages.Create session ps places) = Unit {0}
+FitsReply op (stages.Create session client ps) = Unit {0}
 FitsReply op (stages.Start session places) = Unit {0}
 FitsReply op (stages.Invoke session places) = Unit {0}
 FitsReply op (stages.Stop session) = Unit {0}

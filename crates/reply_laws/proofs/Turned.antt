@@ -14,6 +14,7 @@ use Rattle.app_api.specs.declared.ask.Given.TheVariants as givens
 use Rattle.app_api.specs.declared.call.Call.{Call}
 use Rattle.app_api.specs.declared.call.Call.TheVariants as calls
 use Rattle.app_api.specs.declared.out.Outs.{Outs}
+use Rattle.app_api.specs.declared.param.Params.{Params}
 use Rattle.instances.specs.declared.session.Session.{Session}
 use Rattle.instances.specs.declared.session.SessionFacts.{SessionFacts}
 use Rattle.instances.specs.declared.session.SessionState.{SessionState}
@@ -24,6 +25,7 @@ use Rattle.op_queue.specs.declared.operation.Progress.{Progress}
 use Rattle.op_queue.specs.declared.operation.Progress.TheVariants.{Waiting, Running as Runs}
 use Rattle.op_queue.specs.Queue.{ComesBefore, after_begin, begun_at, begun_of, first_waiting, is_close, is_close_call, is_running, as_running, waits_for}
 use Rattle.object_asks.specs.Asks.{Outcome, Answered, Returned, Panicked, Serving}
+use Rattle.shared_mem.specs.declared.block.Block.{Block}
 use Rattle.alone.specs.declared.active_entry.Instance.{Instance}
 use Rattle.alone.specs.declared.active_entry.ActiveEntry.{ActiveEntry}
 use Rattle.alone.specs.declared.active_entry.EntryPoint.{EntryPoint}
@@ -33,6 +35,7 @@ use Rattle.alone.specs.declared.active_entry.Waits.TheVariants as waits
 use Rattle.alone.specs.declared.reply.Outputs.{Outputs}
 use Rattle.alone.specs.declared.reply.Reply.{Reply}
 use Rattle.alone.specs.Asks.{mask_after, mask_noted, resolution_after}
+use Rattle.alone.specs.Blocks.{given_params}
 use Rattle.alone.specs.Machine.{Machine, instance_at, is_number, put_instance, with_instance}
 use Rattle.alone.specs.Step.{after_ask, after_session, after_answer, begun_with, destroy_begins, after_destroy_begins, first_entry, instance_gone, is_success}
 use Rattle.alone.specs.Step.{masked_again, no_replies, reply_of, after_return, serve_outcome, start_begun}
@@ -129,9 +132,9 @@ module _ {A : Type 0} (m : Machine A) (inst : Instance A) (r : ActiveEntry) (h :
       keeping_put m.queue t t m.instances (record inst { running = None }) inst keeps found (λ s j. omega arith) (λ j. omega arith) (omega arith) (λ n. omega arith)
       (record { creates = λ _. tt; replies = tt })
 
-  answers_some : (t : Table) (op : ℕ) (code : Code) (outputs : Outputs) → r.op ≡ Some op → IsKeeping m.queue t m.instances
-      → IsRepliedBy m (after_answer (record m { table = t }) inst (Some op) code outputs)
-  answers_some t op code outputs serving keeps =
+  answers_some : (t : Table) (bs : List Block) (op : ℕ) (code : Code) (outputs : Outputs) → r.op ≡ Some op → IsKeeping m.queue t m.instances
+      → IsRepliedBy m (after_answer (record m { table = t; blocks = bs }) inst (Some op) code outputs)
+  answers_some t bs op code outputs serving keeps =
       let ys : List (Instance A) = put_instance (record inst { running = None }) m.instances in
       let one = found_counts (λ (x : Instance A). bit (serves op x.running)) (is_number i) m.instances inst found in
       let none : AllByRecursion (λ o. waits_numbered op o ≡ false) os =
@@ -150,15 +153,16 @@ module _ {A : Type 0} (m : Machine A) (inst : Instance A) (r : ActiveEntry) (h :
             (cases_Bool (n == op));
       }
 
-  answers : (t : Table) (op : Option ℕ) (code : Code) (outputs : Outputs) → r.op ≡ op → IsKeeping m.queue t m.instances → IsRepliedBy m (after_answer (record m { table = t }) inst op code outputs)
-  answers t None code outputs serving keeps = replied_same m.queue t (put_instance (record inst { running = None }) m.instances) (idle_keeps t keeps)
-  answers t (Some op) code outputs serving keeps = answers_some t op code outputs serving keeps
+  answers : (t : Table) (bs : List Block) (op : Option ℕ) (code : Code) (outputs : Outputs) → r.op ≡ op → IsKeeping m.queue t m.instances
+      → IsRepliedBy m (after_answer (record m { table = t; blocks = bs }) inst op code outputs)
+  answers t bs None code outputs serving keeps = replied_same m.queue t (put_instance (record inst { running = None }) m.instances) (idle_keeps t keeps)
+  answers t bs (Some op) code outputs serving keeps = answers_some t bs op code outputs serving keeps
 
   -- ---- the destroy entry begins
 
-  destroys_next : (t : Table) (op : Option ℕ) (reply : Option Reply) → r.op ≡ op → inst.created ≡ true → replied reply ≡ op → IsKeeping m.queue t m.instances
-      → IsRepliedBy m (no_replies (after_destroy_begins (record m { table = t }) inst op reply))
-  destroys_next t op reply serving made is keeps =
+  destroys_next : (t : Table) (bs : List Block) (op : Option ℕ) (reply : Option Reply) → r.op ≡ op → inst.created ≡ true → replied reply ≡ op → IsKeeping m.queue t m.instances
+      → IsRepliedBy m (no_replies (after_destroy_begins (record m { table = t; blocks = bs }) inst op reply))
+  destroys_next t bs op reply serving made is keeps =
       let new : Instance A = record inst { running = Some (destroy_begins op reply) } in
       let after : Table = destroy_begun t i in
       replied_alike m.queue m.queue (masked_again m.queue op) after (put_instance new m.instances) [] (alike_again m.queue op)
@@ -167,12 +171,12 @@ module _ {A : Type 0} (m : Machine A) (inst : Instance A) (r : ActiveEntry) (h :
       (λ n. omega (arith, serves_same n op serving))
       (record { creates = λ no. absurd (both_ways _ no made); replies = is })))
 
-  after_session_replied : (t : Table) (op : Option ℕ) (code : Code) (outputs : Outputs) → r.op ≡ op → inst.created ≡ true → IsKeeping m.queue t m.instances
-      → IsRepliedBy m (after_session (record m { table = t }) inst op code outputs)
-  after_session_replied t op code outputs serving made keeps =
+  after_session_replied : (t : Table) (bs : List Block) (op : Option ℕ) (code : Code) (outputs : Outputs) → r.op ≡ op → inst.created ≡ true → IsKeeping m.queue t m.instances
+      → IsRepliedBy m (after_session (record m { table = t; blocks = bs }) inst op code outputs)
+  after_session_replied t bs op code outputs serving made keeps =
       cond_both (is_left t i) _ _ (IsRepliedBy m)
-      (λ _. destroys_next t op (option_map (λ n. reply_of n code App outputs) op) serving made (kept_reply op code outputs) keeps)
-      (λ _. answers t op code outputs serving keeps)
+      (λ _. destroys_next t bs op (option_map (λ n. reply_of n code App outputs) op) serving made (kept_reply op code outputs) keeps)
+      (λ _. answers t bs op code outputs serving keeps)
 
   -- ---- its session goes, or is open
 
@@ -238,10 +242,10 @@ module _ {A : Type 0} (m : Machine A) (inst : Instance A) (r : ActiveEntry) (h :
 
   -- ---- it returns
 
-  creates : (op : Option ℕ) (session : ℕ) (ps : _) (places : _) → r.op ≡ op
-      → IsRepliedBy m (no_replies (with_instance (record m { queue = masked_again m.queue op }) (record inst { created = true; running = Some (start_begun op session ps places) })))
-  creates op session ps places serving =
-      let new : Instance A = record inst { created = true; running = Some (start_begun op session ps places) } in
+  creates : (op : Option ℕ) (session : ℕ) (ps : Params) → r.op ≡ op
+      → IsRepliedBy m (no_replies (with_instance (record m { queue = masked_again m.queue op }) (record inst { created = true; running = Some (start_begun op session ps) })))
+  creates op session ps serving =
+      let new : Instance A = record inst { created = true; running = Some (start_begun op session ps) } in
       replied_alike m.queue m.queue (masked_again m.queue op) m.table (put_instance new m.instances) [] (alike_again m.queue op)
       (replied_same m.queue m.table (put_instance new m.instances)
       (keeping_put m.queue m.table m.table m.instances new inst k found (λ s j. omega arith) (λ j. omega arith) (bit_most inst.created)
@@ -281,17 +285,17 @@ module _ {A : Type 0} (m : Machine A) (inst : Instance A) (r : ActiveEntry) (h :
       }
 
   returns : (op : Option ℕ) (stage : EntryPoint) (code : Code) (outs : Outs) → r.op ≡ op → r.stage ≡ stage → IsRepliedBy m (after_return m inst op stage code outs)
-  returns op (stages.Create session ps places) code outs serving e =
-      cond_both (is_success code) _ _ (IsRepliedBy m) (λ _. creates op session ps places serving) (λ _. torn_replied m i code App k)
+  returns op (stages.Create session client ps) code outs serving e =
+      cond_both (is_success code) _ _ (IsRepliedBy m) (λ _. creates op session (given_params m.blocks client ps) serving) (λ _. torn_replied m i code App k)
   returns op (stages.Start session places) code outs serving e =
       let claim : claim_of_stage i r.stage ≡ Some (facts session i Opening) = ap (claim_of_stage i) e in
       let made : inst.created ≡ true = was_created (λ is. subst IsCreate e is) in
       cond_both (is_success code) _ _ (IsRepliedBy m)
-      (λ _. answers (state_set m.table session Open) op code _ serving (session_opens (facts session i Opening) claim refl made))
-      (λ _. after_session_replied (session_removed m.table session) op code _ serving made (session_goes (facts session i Opening) claim refl))
-  returns op (stages.Invoke session places) code outs serving e = answers m.table op code _ serving k
+      (λ _. answers (state_set m.table session Open) _ op code _ serving (session_opens (facts session i Opening) claim refl made))
+      (λ _. after_session_replied (session_removed m.table session) _ op code _ serving made (session_goes (facts session i Opening) claim refl))
+  returns op (stages.Invoke session places) code outs serving e = answers m.table _ op code _ serving k
   returns op (stages.Stop session) code outs serving e =
-      after_session_replied (session_removed m.table session) op SUCCESS _ serving (was_created (λ is. subst IsCreate e is))
+      after_session_replied (session_removed m.table session) m.blocks op SUCCESS _ serving (was_created (λ is. subst IsCreate e is))
       (session_goes (facts session i Closing) (ap (claim_of_stage i) e) refl)
   returns op (stages.Destroy reply) code outs serving e = destroyed reply op e serving
 
@@ -389,6 +393,10 @@ module _ {A : Type 0} (m : Machine A) (inst : Instance A) (h : IsSoundMachine m)
       claims number instance session (Waiting (calls.Open label login ps)) = omega (arith, never (nat_lt n number && (instance == inst.number) && (session == s)))
       claims number instance session (Waiting (calls.Invoke label command ps)) = omega (arith, never (nat_lt n number && (instance == inst.number) && (session == s)))
       claims number instance session (Waiting (calls.Close label)) = closes (nat_lt n number) (instance == inst.number) (session == s)
+      claims number instance session (Waiting (calls.Share block flags size)) = omega (arith, never (nat_lt n number && (instance == inst.number) && (session == s)))
+      claims number instance session (Waiting (calls.Fill block at bytes)) = omega (arith, never (nat_lt n number && (instance == inst.number) && (session == s)))
+      claims number instance session (Waiting (calls.Show block)) = omega (arith, never (nat_lt n number && (instance == inst.number) && (session == s)))
+      claims number instance session (Waiting (calls.Unshare block)) = omega (arith, never (nat_lt n number && (instance == inst.number) && (session == s)))
       claims number instance session (Runs close cancelled masked) = omega (arith, never (nat_lt n number && (instance == inst.number) && (session == s)))
 
   open_lives : (s : ℕ) → opens s inst.number m.table.sessions ≤ lives inst.number m.table.sessions
@@ -407,23 +415,35 @@ module _ {A : Type 0} (m : Machine A) (inst : Instance A) (h : IsSoundMachine m)
       counts true b state = inner b state
       counts false b state = omega arith
 
-  -- what begins fits the instance
-  first_fits : (o : Operation) (call : Call) → first_waiting m.queue inst.number ≡ Some o → o.progress ≡ Waiting call → (created : Bool) → inst.created ≡ created
-      → EntryFits (record inst { running = Some (first_entry created o.number o.session call) })
-  first_fits o (calls.Open label login ps) first e true made = record { creates = λ no. absurd (both_ways inst.created no made); replies = tt }
-  first_fits o (calls.Invoke label command ps) first e true made = record { creates = λ no. absurd (both_ways inst.created no made); replies = tt }
-  first_fits o (calls.Close label) first e true made = record { creates = λ no. absurd (both_ways inst.created no made); replies = tt }
-  first_fits o (calls.Open label login ps) first e false made = record { creates = λ _. tt; replies = tt }
-  first_fits o (calls.Invoke label command ps) first e false made =
+  -- an invoke doesn't wait for an instance that was not created
+  no_invoke : (o : Operation) (call : Call) → first_waiting m.queue inst.number ≡ Some o → o.progress ≡ Waiting call → is_invoke call ≡ true → inst.created ≡ false → ⊥
+  no_invoke o call first e invokes made =
       let i = inst.number in
       let own : (o.instance == i) ≡ true = (and_parts (o.instance == i) (not (is_running o.progress)) (found_passes (waits_for i) m.queue.operations o first)).0 in
       let here : bit (is_invoke_at o.session i o.number o) ≡ 1 =
       ap (λ b. bit (b && (o.instance == i) && (o.session == o.session) && waits_as is_invoke o.progress)) (eq-eqb o.number o.number refl)
       ∙ ap (λ b. bit (true && b && (o.session == o.session) && waits_as is_invoke o.progress)) own
       ∙ ap (λ b. bit (true && true && b && waits_as is_invoke o.progress)) (eq-eqb o.session o.session refl)
-      ∙ ap (λ p. bit (true && true && true && waits_as is_invoke p)) e in
+      ∙ ap (λ p. bit (true && true && true && waits_as is_invoke p)) e ∙ ap bit invokes in
       let some = k.invoked o.session i o.number (omega (arith, here, found_counts (λ x. bit (is_invoke_at o.session i o.number x)) (waits_for i) m.queue.operations o first)) in
-      absurd (omega (arith, some, open_lives o.session, closer_lives o.session o.number, closing_lives, uncreated made))
+      omega (arith, some, open_lives o.session, closer_lives o.session o.number, closing_lives, uncreated made)
+
+  -- what begins fits the instance
+  first_fits : (o : Operation) (call : Call) → first_waiting m.queue inst.number ≡ Some o → o.progress ≡ Waiting call → (created : Bool) → inst.created ≡ created
+      → EntryFits (record inst { running = Some (first_entry m.blocks created o.number o.client o.session call) })
+  first_fits o (calls.Open label login ps) first e true made = record { creates = λ no. absurd (both_ways inst.created no made); replies = tt }
+  first_fits o (calls.Invoke label command ps) first e true made = record { creates = λ no. absurd (both_ways inst.created no made); replies = tt }
+  first_fits o (calls.Close label) first e true made = record { creates = λ no. absurd (both_ways inst.created no made); replies = tt }
+  first_fits o (calls.Share block flags size) first e true made = record { creates = λ no. absurd (both_ways inst.created no made); replies = tt }
+  first_fits o (calls.Fill block at bytes) first e true made = record { creates = λ no. absurd (both_ways inst.created no made); replies = tt }
+  first_fits o (calls.Show block) first e true made = record { creates = λ no. absurd (both_ways inst.created no made); replies = tt }
+  first_fits o (calls.Unshare block) first e true made = record { creates = λ no. absurd (both_ways inst.created no made); replies = tt }
+  first_fits o (calls.Open label login ps) first e false made = record { creates = λ _. tt; replies = tt }
+  first_fits o (calls.Invoke label command ps) first e false made = absurd (no_invoke o (calls.Invoke label command ps) first e refl made)
+  first_fits o (calls.Share block flags size) first e false made = absurd (no_invoke o (calls.Share block flags size) first e refl made)
+  first_fits o (calls.Fill block at bytes) first e false made = absurd (no_invoke o (calls.Fill block at bytes) first e refl made)
+  first_fits o (calls.Show block) first e false made = absurd (no_invoke o (calls.Show block) first e refl made)
+  first_fits o (calls.Unshare block) first e false made = absurd (no_invoke o (calls.Unshare block) first e refl made)
   first_fits o (calls.Close label) first e false made =
       let i = inst.number in
       let own : (o.instance == i) ≡ true = (and_parts (o.instance == i) (not (is_running o.progress)) (found_passes (waits_for i) m.queue.operations o first)).0 in
@@ -445,15 +465,23 @@ module _ {A : Type 0} (m : Machine A) (inst : Instance A) (h : IsSoundMachine m)
     begun = map (as_running o.number) ops
 
     abbrev new : Instance A
-    new = record inst { running = Some (first_entry inst.created o.number o.session call) }
+    new = record inst { running = Some (first_entry m.blocks inst.created o.number o.client o.session call) }
 
-    serves_one : (created : Bool) (n : ℕ) (call : Call) → serves n (Some (first_entry created o.number o.session call)) ≡ (o.number == n)
+    serves_one : (created : Bool) (n : ℕ) (call : Call) → serves n (Some (first_entry m.blocks created o.number o.client o.session call)) ≡ (o.number == n)
     serves_one false n (calls.Open label login ps) = refl
     serves_one true n (calls.Open label login ps) = refl
     serves_one false n (calls.Invoke label command ps) = refl
     serves_one true n (calls.Invoke label command ps) = refl
     serves_one false n (calls.Close label) = refl
     serves_one true n (calls.Close label) = refl
+    serves_one false n (calls.Share block flags size) = refl
+    serves_one true n (calls.Share block flags size) = refl
+    serves_one false n (calls.Fill block at bytes) = refl
+    serves_one true n (calls.Fill block at bytes) = refl
+    serves_one false n (calls.Show block) = refl
+    serves_one true n (calls.Show block) = refl
+    serves_one false n (calls.Unshare block) = refl
+    serves_one true n (calls.Unshare block) = refl
 
     -- one that begins waits no more, and the others stay as they were
     fewer : (f : Operation → ℕ) → ((x : Operation) → f (record x { progress = Runs (is_close x.progress) false true }) ≡ 0) → total f begun + f o ≤ total f ops

@@ -23,10 +23,15 @@ use Rattle.alone.proofs.Changed.{operation_number}
 
 -- ---- operations
 
+-- its first entry is an invoke, which a call about shared memory would begin as well
 abbrev pub is_invoke : Call → Bool
 is_invoke (calls.Open label login ps) = false
 is_invoke (calls.Invoke label command ps) = true
 is_invoke (calls.Close label) = false
+is_invoke (calls.Share block flags size) = true
+is_invoke (calls.Fill block at bytes) = true
+is_invoke (calls.Show block) = true
+is_invoke (calls.Unshare block) = true
 
 abbrev pub any_call : Call → Bool
 any_call call = true

@@ -54,6 +54,7 @@ module _ {A : Type 0} where
     removed = λ m session same. same;
     ending = λ m i same. same;
     gone = λ m i same. same;
+    delivered = λ m op os same. same;
     objects = λ m i ask same. goes_all (λ _. HasNext n m) (object_resolution (objects_of m) i ask) (λ _. same);
     crypto = λ m s stream same. same;
     made = λ m i object bits random same. goes_all (λ _. HasNext n m) (generate_resolution (objects_of m) i object bits random) (λ _. same);
@@ -63,9 +64,10 @@ module _ {A : Type 0} where
   next_by_calls n = record {
     at_once = λ m same. ap (λ k. k + 1) same;
     dead_gone = λ m session same. ap (λ k. k + 1) same;
-    waits = λ m client i session call same. ap (λ k. k + 1) same;
-    closes = λ m client i session call same. ap (λ k. k + 1) same;
-    opens = λ m client label login a call same. ap (λ k. k + 1) same;
+    waits = λ m client i session call usable same. ap (λ k. k + 1) same;
+    closes = λ m client i session call usable same. ap (λ k. k + 1) same;
+    opens = λ m client label login a call usable same. ap (λ k. k + 1) same;
+    shared = λ m blocks change same. ap (λ k. k + 1) same;
   }
 
   turned_next : (behaviour : Behaviour A) (serving : Serving) (m : Machine A) (i : ℕ) → (turned_as behaviour serving m i).machine.queue.next ≡ m.queue.next

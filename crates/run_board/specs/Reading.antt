@@ -6,7 +6,7 @@ use Rattle.script.specs.declared.dialect.Dialect.{Dialect}
 use Rattle.tee_base.specs.Faults.{Rose}
 use Rattle.tee_base.specs.Transfer.{ConsumesWithin, HasMoreThan}
 use Rattle.tee_base.specs.declared.io.Source.{Ghosts as SourceGhosts}
-use Rattle.tee_base.specs.declared.limits.TheConstants.{MAX_SCRIPT_BYTES}
+use Rattle.tee_base.specs.declared.limits.TheConstants.{MAX_CLIENTS, MAX_SCRIPT_BYTES}
 use Rattle.app_api.specs.declared.host.Host.{Host}
 use Rattle.script.specs.declared.line.Line.{Line}
 use Rattle.script.specs.declared.line.Line.TheVariants as lines
@@ -79,16 +79,16 @@ pub record IsTooMuch (left : Option (List ℕ)) (text : Text) (before after : �
 abbrev pub IsOfScript : {A : Type 0} → Dialect → List (Host A) → Option (List ℕ) → (List Line → Type 0) → Type 0
 IsOfScript dialect hosts left IsSo = (script : List Line) × ReadsTo dialect hosts left script × IsSo script
 
--- the line names one of so many applications, if it names one
+-- the line names one of so many applications, if it names one, and a call is of a client that there is
 abbrev pub IsKnown : ℕ → Line → Type 0
-IsKnown count (lines.Call app client post call) = app < count
+IsKnown count (lines.Call app client post call) = (app < count) × (client < MAX_CLIENTS)
 IsKnown count (lines.Turns app client instance turns) = app < count
 IsKnown count (lines.Cancel app client op) = app < count
 IsKnown count (lines.Fuse calls) = ⊤
 IsKnown count (lines.Power pick) = ⊤
 
--- lines of a script that the source had left, where it tells that: each names an application that there is, if it names one, and takes a
--- byte of the text at least
+-- lines of a script that the source had left, where it tells that: each names an application that there is, if it names one, is of a client
+-- that there is, if it is a call, and takes a byte of the text at least
 pub record AreLinesOf {A : Type 0} (dialect : Dialect) (hosts : List (Host A)) (left : Option (List ℕ)) (script : List Line) : Type 0 where
   pub read : ReadsTo dialect hosts left script
   pub known : AllByRecursion (IsKnown (length hosts)) script

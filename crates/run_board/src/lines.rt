@@ -1,14 +1,14 @@
 //! Lines, one after the other: what happens in a line is written before the next line is run, and what happens in each event of
 //! a line before the next event is made.
 
-ghost use Rattle.tee_base.specs.declared.limits.TheConstants.{MAX_NUMBER};
+ghost use Rattle.tee_base.specs.declared.limits.TheConstants.{MAX_CLIENTS, MAX_NUMBER};
 ghost use Rattle.std.specs.Prelude.{◌≡◌, ◌≤◌, ◌<◌, ◌+◌, ◌^◌, ◌↔◌, ℕ, IfOk, IsTrue, Some, [], ◌∷◌, length, slice_get, slice_index_or};
 ghost use Rattle.std.specs.List.{AllByRecursion};
 ghost use Rattle.alone.specs.Machine.{Machine};
 ghost use Rattle.alone.specs.Runs.{most_turns};
 ghost use Rattle.alone.specs.Step.{after_call};
 ghost use Rattle.app_api.specs.declared.call.Call.{Call as ClientCall};
-ghost use Rattle.tee_core.specs.Represents.{app_count, app_of, turns_made, Represents};
+ghost use Rattle.tee_core.specs.Represents.{app_count, app_of, turns_made, IsOfClient, Represents};
 ghost use Rattle.tee_core.specs.World.{World, turn_events};
 ghost use Rattle.run_board.specs.BoardLines.{AreFirstWords};
 ghost use Rattle.run_board.specs.Layers.{MakesEvents, RunsLines, point_of};
@@ -82,6 +82,7 @@ fn run_event<B: Board, V: BoardVolume<B>, A: Application, W: Sink>(
     requires words { AreFirstWords names.now }
     requires known { app < app_count tee.old }
     requires own { app_of event ≡ app }
+    requires client { IsOfClient event }
     ensures made { MakesEvents A.behaviour V.form names.now
         (λ world weather. step_events A.behaviour weather world event) result
         (point_of B.view B.honest V.board_of W.written W.failures tee.old sink.old)
@@ -175,6 +176,7 @@ fn run_call<B: Board, V: BoardVolume<B>, A: Application, W: Sink>(
     requires names { length names.now ≡ app_count tee.old }
     requires words { AreFirstWords names.now }
     requires known { app < app_count tee.old }
+    requires client { client < MAX_CLIENTS }
     ensures { MakesEvents A.behaviour V.form names.now
         (λ world weather. line_events A.behaviour weather world (Line.Call app client post call))
         result

@@ -1,206 +1,33 @@
 -- The canonical text of a script that some text reads to reads to that script.
-use Rattle.std.proofs.Common.{◌≡◌, ◌≢◌, ℕ, zero, suc, ◌-◌, ◌^◌, ◌<◌, ◌≤◌, ◌⊎◌, Bool, true, false, cond, eqb, List, [], ◌∷◌, ◌++◌, length}
-use Rattle.std.proofs.Common.{map, replicate, get_or, Ok, Some, refl, sym, ap, subst, append_assoc, arith, inl, inr}
+use Rattle.std.proofs.Common.{◌≡◌, ◌≢◌, ℕ, ◌-◌, ◌^◌, ◌<◌, ◌≤◌, Bool, true, false, cond, eqb, List, [], ◌∷◌, ◌++◌, length}
+use Rattle.std.proofs.Common.{map, get_or, Some, refl, sym, ap, subst, append_assoc, arith, inl, inr}
 use Rattle.std.specs.Prelude.{codes, slice_get, slice_index}
 use Rattle.std.specs.Fmt.{decimal}
 use Rattle.std.specs.List.{AllByRecursion, flat_map}
 use Rattle.std.specs.Str.{IsAscii}
 use Rattle.std.specs.Str.Lines.{strip_carriage_return}
-use Rattle.std.proofs.lemmas.Bool.{and_parts, cond-false, eqb-true, ne_eqb}
-use Rattle.std.proofs.lemmas.Fmt.{decimal_nonempty}
+use Rattle.std.proofs.lemmas.Bool.{cond-false, eqb-true, ne_eqb}
 use Rattle.std.proofs.lemmas.List.{append-nil}
-use Rattle.std.proofs.lemmas.List.Elements.{All-from_recursion, recursion_from_All}
+use Rattle.std.proofs.lemmas.List.Elements.{All-from_recursion}
 use Rattle.std.proofs.lemmas.Option.{get_or_from_slice_get}
 use Rattle.std.proofs.lemmas.Str.Ascii.{IsAscii-from_all}
-use Rattle.hex.specs.Hex.{decode_of, encode_lower, IsBytes}
-use Rattle.hex.proofs.HexLemmas.{decode_of-encode_lower, decode_of-ok}
-use Rattle.uuid.specs.Text.{hyphenated_text, lower}
 use Rattle.tee_base.specs.declared.limits.TheConstants.{MAX_CLIENTS}
-use Rattle.app_api.specs.declared.call.Call.{Call}
-use Rattle.app_api.specs.declared.call.Call.TheVariants as calls
 use Rattle.app_api.specs.declared.host.Host.{Host}
-use Rattle.app_api.specs.declared.login.Login.{Login}
-use Rattle.app_api.specs.declared.login.Login.TheVariants.{Public, User, Group, App}
-use Rattle.app_api.specs.declared.param.Param.{Param}
-use Rattle.app_api.specs.declared.param.Param.TheVariants.{Nothing as NoParam, ValueIn, ValueOut, ValueInOut, MemIn, MemOut, MemInOut}
-use Rattle.app_api.specs.Hosts.{HostsFit, IsDigit, IsLowercase, IsName}
-use Rattle.app_api.specs.Params.{params_of}
+use Rattle.app_api.specs.Hosts.{HostsFit, IsName}
 use Rattle.script.specs.declared.dialect.Dialect.TheVariants.{Whole}
 use Rattle.script.specs.declared.line.Line.{Line}
 use Rattle.script.specs.declared.line.Line.TheVariants as lines
 use Rattle.script.specs.declared.line.Meaning.{Meaning}
 use Rattle.script.specs.declared.line.Meaning.TheVariants.{Nothing, Client, Script}
-use Rattle.script.specs.Canonical.{are_none, behind_spaces, call_words, canonical, canonical_from, client_of, client_text, is_none, line_text, login_words, name_at, param_word, params_words}
+use Rattle.script.specs.Canonical.{behind_spaces, call_words, canonical, canonical_from, client_of, client_text, line_text, name_at}
 use Rattle.script.specs.Dialects.{Takes}
-use Rattle.script.specs.Grammar.{AreNext, HasNoLineFeed, IsCall, IsFirstLine, IsHost, IsLine, IsLogin, IsNext, IsSilent, Means, Place, Reads, lines_of, post_words, start_of}
-use Rattle.script.specs.Words.{AreParams, AreWords, IsNumber32, IsParam, IsWord}
+use Rattle.script.specs.Grammar.{AreNext, HasNoLineFeed, IsFirstLine, IsHost, IsLine, IsNext, IsSilent, Means, Place, Reads, lines_of, post_words, start_of}
+use Rattle.script.specs.Words.{AreWords}
 use Rattle.script.proofs.Cuts.{all_append, all_weaker}
-use Rattle.script.proofs.Decimals.{IsGraphic, decimal_number, digits_part}
+use Rattle.script.proofs.Decimals.{IsGraphic, decimal_number}
 use Rattle.script.proofs.HostWords.{mapped_get, named_at}
-use Rattle.script.proofs.LoginWords.{id_printed, id_word}
-use Rattle.script.proofs.ParamWords.{are_graphic, graphic_word, param_graphic}
+use Rattle.script.proofs.PrintedWords.{IsInk, call_line_printed, decimal_ink, ink_word, literal, name_ink}
 use Rattle.script.proofs.WordTexts.{word_alone, word_before}
-
--- ---- printed words
-
--- a word of printed bytes
-abbrev IsInk : List ℕ → Type 0
-IsInk word = (word ≢ []) × AllByRecursion IsGraphic word
-
-ink_word : (word : List ℕ) → IsInk word → IsWord word
-ink_word word h = (h.0, all_weaker IsGraphic (λ c. c ≢ 32) (λ c p e. omega (arith, p.0)) word h.1)
-
-decimal_ink : (n : ℕ) → n < 2 ^ 64 → IsInk (decimal n)
-decimal_ink n small =
-    ((λ e. omega (arith, ap length e, decimal_nonempty n small)), all_weaker _ IsGraphic (λ c p. p.0) (decimal n) (digits_part (decimal n) (decimal_number n small).0.1))
-
-name_byte : (c : ℕ) → IsLowercase c ⊎ IsDigit c → IsGraphic c
-name_byte c (inl h) = (omega (arith, h.0), omega (arith, h.1))
-name_byte c (inr h) = (omega (arith, h.0), omega (arith, h.1))
-
-name_ink : (name : List ℕ) → IsName name → IsInk name
-name_ink name h =
-    ((λ e. omega (arith, ap length e, h.some)), all_weaker (λ c. IsLowercase c ⊎ IsDigit c) IsGraphic name_byte name (recursion_from_All (λ c. IsLowercase c ⊎ IsDigit c) name h.each))
-
--- ---- parameters
-
-abbrev pub CanPrint : Param → Type 0
-CanPrint param = IsParam (param_word param) param 0
-
-byte_bytes : (digits : List ℕ) (byte : ℕ) → decode_of digits ≡ Ok (byte ∷ []) → byte < 256
-byte_bytes digits byte e = (decode_of-ok digits (byte ∷ []) e).3 0
-
-filled_bytes : (n byte : ℕ) → byte < 256 → IsBytes (replicate n byte)
-filled_bytes zero byte small i = omega arith
-filled_bytes (suc n) byte small zero = small
-filled_bytes (suc n) byte small (suc i) = filled_bytes n byte small i
-
--- what some word says is said by its canonical word, for which nothing is filled in
-can_print : (word : List ℕ) (param : Param) (fill : ℕ) → IsParam word param fill → CanPrint param
-unfolding IsParam
-can_print word NoParam fill h = (refl, refl)
-can_print word (ValueIn a b) fill h = ((decimal a, decimal b, (decimal_number a (omega (arith, h.0.2.1)), h.0.2.1), (decimal_number b (omega (arith, h.0.3.1)), h.0.3.1), refl), refl)
-can_print word ValueOut fill h = (refl, refl)
-can_print word (ValueInOut a b) fill h = ((decimal a, decimal b, (decimal_number a (omega (arith, h.0.2.1)), h.0.2.1), (decimal_number b (omega (arith, h.0.3.1)), h.0.3.1), refl), refl)
-can_print word (MemIn bytes) fill (inl h) = inl ((encode_lower bytes, decode_of-encode_lower bytes (decode_of-ok h.0.0 bytes h.0.1).3, refl), refl)
-can_print word (MemIn bytes) fill (inr h) =
-    let all : IsBytes bytes = subst IsBytes (sym h.6) (filled_bytes fill h.0 (byte_bytes h.2 h.0 h.4)) in
-    inl ((encode_lower bytes, decode_of-encode_lower bytes all, refl), refl)
-can_print word (MemOut size) fill h = ((decimal size, (decimal_number size (omega (arith, h.0.1.1)), h.0.1.1), refl), refl)
-can_print word (MemInOut bytes) fill h = ((encode_lower bytes, decode_of-encode_lower bytes (decode_of-ok h.0.0 bytes h.0.1).3, refl), refl)
-
-pub none_prints : CanPrint NoParam
-unfolding IsParam
-none_prints = (refl, refl)
-
-can_print_each : (words : List (List ℕ)) (params : List Param) (fills : ℕ) → AreParams words params fills → AllByRecursion CanPrint params
-unfolding AreParams
-can_print_each [] [] fills h = tt
-can_print_each [] (param ∷ params) fills h = (subst CanPrint (sym h.0) none_prints, can_print_each [] params fills h.1)
-can_print_each (word ∷ words) [] fills h = absurd h
-can_print_each (word ∷ words) (param ∷ params) fills h = (can_print word param h.0 h.2, can_print_each words params h.1 h.3)
-
-is_nothing : (param : Param) → is_none param ≡ true → param ≡ NoParam
-is_nothing NoParam e = refl
-is_nothing (ValueIn a b) e = absurd cc
-is_nothing ValueOut e = absurd cc
-is_nothing (ValueInOut a b) e = absurd cc
-is_nothing (MemIn bytes) e = absurd cc
-is_nothing (MemOut size) e = absurd cc
-is_nothing (MemInOut bytes) e = absurd cc
-
-all_none : (params : List Param) → are_none params ≡ true → AreParams [] params 0
-unfolding AreParams
-all_none [] e = refl
-all_none (param ∷ params) e = let p = and_parts (is_none param) (are_none params) e in (is_nothing param p.0, all_none params p.1)
-
-pub params_printed : (params : List Param) → AllByRecursion CanPrint params → AreParams (params_words params) params 0
-unfolding AreParams
-params_printed [] h = refl
-params_printed (param ∷ params) h = by_test (are_none (param ∷ params)) refl (params_printed params h.1)
-  where
-    by_test : (b : Bool) → are_none (param ∷ params) ≡ b → AreParams (params_words params) params 0 → AreParams (cond b [] (param_word param ∷ params_words params)) (param ∷ params) 0
-    by_test true e others = all_none (param ∷ params) e
-    by_test false e others = (0, 0, h.0, others, refl)
-
-some_word : (param : Param) → param_word param ≢ []
-some_word NoParam e = cc
-some_word (ValueIn a b) e = cc
-some_word ValueOut e = cc
-some_word (ValueInOut a b) e = cc
-some_word (MemIn bytes) e = cc
-some_word (MemOut size) e = cc
-some_word (MemInOut bytes) e = cc
-
-params_ink : (params : List Param) → AllByRecursion CanPrint params → AllByRecursion IsInk (params_words params)
-params_ink [] h = tt
-params_ink (param ∷ params) h = by_test (are_none (param ∷ params)) (params_ink params h.1)
-  where
-    by_test : (b : Bool) → AllByRecursion IsInk (params_words params) → AllByRecursion IsInk (cond b [] (param_word param ∷ params_words params))
-    by_test true others = tt
-    by_test false others = ((some_word param, param_graphic (param_word param) param 0 h.0), others)
-
--- ---- calls
-
-literal : (c : ℕ) (cs : List ℕ) → are_graphic (c ∷ cs) ≡ true → IsInk (c ∷ cs)
-literal c cs e = ((λ h. cc), graphic_word (c ∷ cs) e)
-
-number32_fits : (digits : List ℕ) (n : ℕ) → IsNumber32 digits n → n < 2 ^ 64
-number32_fits digits n h = omega (arith, h.1)
-
-number32_printed : (digits : List ℕ) (n : ℕ) → IsNumber32 digits n → IsNumber32 (decimal n) n
-number32_printed digits n h = (decimal_number n (number32_fits digits n h), h.1)
-
-front_ink : (front rest : List ℕ) → are_graphic (front) ≡ true → IsInk rest → IsInk (front ++ rest)
-front_ink [] rest e h = h
-front_ink (c ∷ cs) rest e h = ((λ none. cc), all_append IsGraphic (c ∷ cs) rest (graphic_word (c ∷ cs) e) h.1)
-
-login_printed : (words : List (List ℕ)) (login : Login) → IsLogin words login → IsLogin (login_words login) login × AllByRecursion IsInk (login_words login)
-login_printed words Public h = (refl, tt)
-login_printed words (User n) h =
-    ((decimal n, number32_printed h.0 n h.1, refl), (front_ink (codes "user:") (decimal n) refl (decimal_ink n (number32_fits h.0 n h.1)), tt))
-login_printed words (Group n) h =
-    ((decimal n, number32_printed h.0 n h.1, refl), (front_ink (codes "group:") (decimal n) refl (decimal_ink n (number32_fits h.0 n h.1)), tt))
-login_printed words (App id) h =
-    ((hyphenated_text lower id, id_printed h.0 id h.1, refl), (front_ink (codes "app:") (hyphenated_text lower id) refl (id_word id), tt))
-
-call_printed : (words : List (List ℕ)) (call : Call) (fill : ℕ) → IsCall words call fill → IsCall (call_words call) call 0 × AllByRecursion IsInk (call_words call)
-unfolding IsCall
-call_printed words (calls.Open label login params) fill h =
-    let who = login_printed h.1 login h.4 in
-    let each = can_print_each h.2 (params_of params) fill h.5 in (
-      (decimal label, login_words login, params_words (params_of params), number32_printed h.0 label h.3, who.0, params_printed (params_of params) each, refl),
-      (
-        literal 111 (codes "pen") refl,
-        (
-          decimal_ink label (number32_fits h.0 label h.3),
-          all_append IsInk (login_words login) (params_words (params_of params)) who.1 (params_ink (params_of params) each),
-        ),
-      ),
-    )
-call_printed words (calls.Invoke label command params) fill h =
-    let each = can_print_each h.2 (params_of params) fill h.5 in (
-      (
-        decimal label,
-        decimal command,
-        params_words (params_of params),
-        number32_printed h.0 label h.3,
-        number32_printed h.1 command h.4,
-        params_printed (params_of params) each,
-        refl,
-      ),
-      (
-        literal 105 (codes "nvoke") refl,
-        (
-          decimal_ink label (number32_fits h.0 label h.3),
-          (
-            decimal_ink command (number32_fits h.1 command h.4),
-            params_ink (params_of params) each,
-          ),
-        ),
-      ),
-    )
-call_printed words (calls.Close label) fill h = ((decimal label, number32_printed h.0 label h.1, refl, refl), (literal 99 (codes "lose") refl, (decimal_ink label (number32_fits h.0 label h.1), tt)))
 
 -- ---- words that are put together
 
@@ -270,24 +97,19 @@ name_is {A} hosts app host e = get_or_from_slice_get (map (λ h. h.name) hosts) 
 named : {A : Type 0} (hosts : List (Host A)) (word : List ℕ) (app : ℕ) → HostsFit hosts → IsHost hosts word app → IsHost hosts (name_at hosts app) app × IsName (name_at hosts app)
 named hosts word app fit h = ((h.0, h.1, inl (name_is hosts app h.0 h.1)), subst IsName (sym (name_is hosts app h.0 h.1)) (named_at hosts app h.0 fit h.1))
 
-post_ink : (post : Bool) (words : List (List ℕ)) → AllByRecursion IsInk words → AllByRecursion IsInk (post_words post ++ words)
-post_ink true words h = (literal 112 (codes "ost") refl, h)
-post_ink false words h = h
-
 line_printed : {A : Type 0} (hosts : List (Host A)) (client : ℕ) (words : List (List ℕ)) (line : Line) (fill : ℕ) → HostsFit hosts → IsLine hosts client words line fill
     → IsPrinted hosts (client_of client line) line × (client_of client line ≡ client)
 unfolding IsLine
 line_printed hosts client words (lines.Call app owner post call) fill fit h =
     let n = named hosts h.1 app fit h.3 in
-    let c = call_printed h.2 call fill h.4 in (
+    let c = call_line_printed h.2 post call fill h.4 in (
       record {
         word = name_at hosts app;
         words = post_words post ++ call_words call;
         whole = refl;
         ink = name_ink (name_at hosts app) n.1;
-        each =
-            post_ink post (call_words call) c.1;
-        says = (refl, name_at hosts app, call_words call, n.0, c.0, refl);
+        each = c.1;
+        says = (refl, name_at hosts app, post_words post ++ call_words call, n.0, c.0, refl);
         loud =
             loud_name (name_at hosts app) (behind_spaces (post_words post ++ call_words call)) n.1;
       },

@@ -89,13 +89,13 @@ abbrev pub IsGraphic : ℕ → Type 0
 IsGraphic c = (32 < c) × (c < 128)
 
 -- a byte of a part of a parameter is no colon
-abbrev pub IsPart : ℕ → Type 0
-IsPart c = IsGraphic c × (eqb c 58 ≡ false)
+abbrev pub IsPartByte : ℕ → Type 0
+IsPartByte c = IsGraphic c × (eqb c 58 ≡ false)
 
-in_range_part : (c : ℕ) → IsInRange 48 57 c → IsPart c
+in_range_part : (c : ℕ) → IsInRange 48 57 c → IsPartByte c
 in_range_part c h = ((omega (arith, h.0), omega (arith, h.1)), ne_eqb c 58 (λ e. omega (arith, h.1)))
 
-pub digits_part : (ds : List ℕ) → AllDigits 10 ds → AllByRecursion IsPart ds
+pub digits_part : (ds : List ℕ) → AllDigits 10 ds → AllByRecursion IsPartByte ds
 digits_part [] h = tt
 digits_part (c ∷ cs) h = (in_range_part c (digit_from_value c h.0), digits_part cs h.1)
 

@@ -8,7 +8,7 @@ use Rattle.hex.specs.Hex.{◌>>=◌, decode_of, decode_pairs, digit_or_error, he
 use Rattle.hex.specs.declared.error.FromHexError.{FromHexError}
 use Rattle.hex.specs.declared.error.FromHexError.TheVariants.{OddLength}
 use Rattle.script.specs.Parameters.{hex_of}
-use Rattle.script.proofs.Decimals.{IsPart}
+use Rattle.script.proofs.Decimals.{IsPartByte}
 
 -- which way a test went
 pub chosen : {X : Type 0} (b : Bool) (x y z : X) → cond b x y ≡ z → ((b ≡ true) × (x ≡ z)) ⊎ ((b ≡ false) × (y ≡ z))
@@ -32,7 +32,7 @@ bind_ok (Err d) f y e = absurd cc
 between : (low high c : ℕ) → leb low c && leb c high ≡ true → (low ≤ c) × (c ≤ high)
 between low high c e = let p = and_parts (leb low c) (leb c high) e in (leb-true low c p.0, leb-true c high p.1)
 
-value_part : (c v : ℕ) → hex_digit_value c ≡ Some v → IsPart c
+value_part : (c v : ℕ) → hex_digit_value c ≡ Some v → IsPartByte c
 value_part c v e =
     elim (chosen (leb 65 c && leb c 70) _ _ _ e) [
       | inl upper ↦ let p = between 65 70 c upper.0 in ((omega (arith, p.0), omega (arith, p.1)), ne_eqb c 58 (λ h. omega (arith, p.0)))
@@ -49,7 +49,7 @@ digit_of : (c i v : ℕ) (o : Option ℕ) → digit_or_error c i o ≡ Ok v → 
 digit_of c i v (Some w) e = ap Some cc
 digit_of c i v None e = absurd cc
 
-pairs_part : (i : ℕ) (digits bytes : List ℕ) → decode_pairs i digits ≡ Ok bytes → AllByRecursion IsPart digits
+pairs_part : (i : ℕ) (digits bytes : List ℕ) → decode_pairs i digits ≡ Ok bytes → AllByRecursion IsPartByte digits
 unfolding decode_pairs
 pairs_part i [] bytes e = tt
 pairs_part i (digit ∷ []) bytes e = absurd cc
@@ -63,7 +63,7 @@ pairs_part i (high ∷ low ∷ rest) bytes e =
 no_ok : (e : FromHexError) (bytes : List ℕ) → ◌≡◌ {A = Result (List ℕ) FromHexError} (Err e) (Ok bytes) → ⊥
 no_ok e bytes h = cc
 
-pub hex_part : (digits bytes : List ℕ) → decode_of digits ≡ Ok bytes → AllByRecursion IsPart digits
+pub hex_part : (digits bytes : List ℕ) → decode_of digits ≡ Ok bytes → AllByRecursion IsPartByte digits
 hex_part digits bytes e =
     elim (chosen (eqb (length digits % 2) 1) (Err OddLength) (decode_pairs 0 digits) (Ok bytes) e) [
       | inl odd ↦ absurd (no_ok OddLength bytes odd.1)

@@ -5,11 +5,13 @@ pub mod ParamWords
 pub mod WordTexts
 pub mod HostWords
 pub mod LoginWords
+pub mod MemoryWords
 pub mod LineMeanings
 pub mod Places
 pub mod ScriptTexts
 pub mod ParseLaws
 pub mod Fronts
+pub mod PrintedWords
 pub mod CanonicalTexts
 pub mod Draws
 pub mod WorkloadTexts

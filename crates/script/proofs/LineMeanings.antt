@@ -20,9 +20,9 @@ use Rattle.script.specs.declared.line.Meaning.{Meaning}
 use Rattle.script.specs.declared.line.Meaning.TheVariants.{Nothing, Client, Script}
 use Rattle.script.specs.declared.line.ReadCall.{ReadCall}
 use Rattle.script.specs.declared.line.ReadMeaning.{ReadMeaning}
-use Rattle.script.specs.Grammar.{IsCall, IsHost, IsLine, IsLogin, IsSilent, Means, post_words}
+use Rattle.script.specs.Grammar.{IsCall, IsCallLine, IsHost, IsLine, IsLogin, IsSilent, Means, post_words}
 use Rattle.script.specs.Lines.{all_ascii, app_line, board_line, call_line, call_of, cancel_line, client_line, closed_by, host_at, invoked_by}
-use Rattle.script.specs.Lines.{is_silent, login_in, meaning_of, meaning_of_words, opened_as, opened_by, opened_with, plain_line, turns_line, words_of}
+use Rattle.script.specs.Lines.{is_silent, login_in, meaning_of, meaning_of_words, memory_call_of, memory_or_call_line, opened_as, opened_by, opened_with, plain_line, turns_line, words_of}
 use Rattle.script.specs.Numbers.{number_of, number32_of, within}
 use Rattle.script.specs.Parameters.{parameters_of}
 use Rattle.script.specs.Words.{AreParams, AreWords, IsNumber, IsNumber32}
@@ -30,6 +30,7 @@ use Rattle.script.proofs.Decimals.{number32_again, number32_reads, number_again,
 use Rattle.script.proofs.HexDigits.{chosen}
 use Rattle.script.proofs.HostWords.{host_again, host_reads, not_board, not_client}
 use Rattle.script.proofs.LoginWords.{Says, app_again as application_again, group_again, login_reads, param_again, user_again}
+use Rattle.script.proofs.MemoryWords.{AreMemoryCall, memory_again, memory_reads}
 use Rattle.script.proofs.ParamWords.{is_word, parameters_again, parameters_read, some_bind}
 use Rattle.script.proofs.WordTexts.{IsAsciiWord, ascii_again, ascii_reads, words_again, words_ascii, words_read}
 
@@ -132,13 +133,21 @@ call_again words (calls.Open label login params) fill ascii h =
     ap call_of h.6 ∙ opened_again h.0 h.1 h.2 label login params fill h.3 h.4 each.1.1 h.5
 call_again words (calls.Invoke label command params) fill ascii h = ap call_of h.6 ∙ rw (number32_again h.0 label h.3, number32_again h.1 command h.4, parameters_again h.2 params fill h.5) refl
 call_again words (calls.Close label) fill ascii h = ap call_of h.2 ∙ rw (number32_again h.0 label h.1, h.3) refl
+call_again words (calls.Share block flags size) fill ascii h = absurd h
+call_again words (calls.Fill block at bytes) fill ascii h = absurd h
+call_again words (calls.Show block) fill ascii h = absurd h
+call_again words (calls.Unshare block) fill ascii h = absurd h
 
--- a call's first word is no other verb
+-- the first word of a call about a session is no other verb
 call_verb : (client app : ℕ) (words : List (List ℕ)) (call : Call) (fill : ℕ) → IsCall words call fill → app_line client app words ≡ call_line client app false words
-unfolding app_line IsCall
+unfolding app_line memory_call_of IsCall
 call_verb client app words (calls.Open label login params) fill h = ap (app_line client app) h.6 ∙ ap (call_line client app false) (sym h.6)
 call_verb client app words (calls.Invoke label command params) fill h = ap (app_line client app) h.6 ∙ ap (call_line client app false) (sym h.6)
 call_verb client app words (calls.Close label) fill h = ap (app_line client app) h.2 ∙ ap (call_line client app false) (sym h.2)
+call_verb client app words (calls.Share block flags size) fill h = absurd h
+call_verb client app words (calls.Fill block at bytes) fill h = absurd h
+call_verb client app words (calls.Show block) fill h = absurd h
+call_verb client app words (calls.Unshare block) fill h = absurd h
 
 -- ---- what is read as a line is its words
 
@@ -156,7 +165,15 @@ call_line_reads hosts client app post name words read host e =
     let c = some_bind (call_of words) _ read e in
     subst (λ (r : ReadMeaning). WordsMean hosts client (name ∷ post_words post ++ words) r.meaning r.fills)
     (same_Some (record { meaning = Script (lines.Call app client post c.0.call); fills = c.0.fills }) read c.2)
-    (refl, name, words, host, call_reads words c.0 c.1, refl)
+    (refl, name, post_words post ++ words, host, inl (words, call_reads words c.0 c.1, refl), refl)
+
+memory_or_call_reads : {A : Type 0} (hosts : List (Host A)) (client app : ℕ) (name : List ℕ) (words : List (List ℕ)) (said : Option Call) (read : ReadMeaning) → IsHost hosts name app
+    → AreMemoryCall words said → memory_or_call_line client app said words ≡ Some read → WordsMean hosts client (name ∷ words) read.meaning read.fills
+unfolding IsLine
+memory_or_call_reads hosts client app name words None read host are e = call_line_reads hosts client app false name words read host e
+memory_or_call_reads hosts client app name words (Some call) read host are e =
+    subst (λ (r : ReadMeaning). WordsMean hosts client (name ∷ words) r.meaning r.fills) (same_Some (plain_line (lines.Call app client false call)) read e)
+    (refl, name, words, host, inr (are, refl, refl), refl)
 
 turns_line_reads : {A : Type 0} (hosts : List (Host A)) (client app : ℕ) (name verb : List ℕ) (words : List (List ℕ)) (read : ReadMeaning) → IsHost hosts name app
     → verb ≡ codes "turn" → turns_line client app words ≡ Some read
@@ -197,7 +214,8 @@ app_line_reads hosts client app name (verb ∷ words) read host e =
         | inr g ↦ elim (chosen (bytes_eq verb (codes "post")) _ _ _ g.1) [
           | inl h ↦ subst (λ (w : List ℕ). WordsMean hosts client (name ∷ w ∷ words) read.meaning read.fills) (sym (is_word verb (codes "post") h.0))
               (call_line_reads hosts client app true name words read host h.1)
-          | inr h ↦ call_line_reads hosts client app false name (verb ∷ words) read host h.1
+          | inr h ↦ let said = some_bind (memory_call_of verb words) _ read h.1 in
+              memory_or_call_reads hosts client app name (verb ∷ words) said.0 read host (memory_reads verb words said.0 said.1) said.2
         ]
       ]
     ]
@@ -298,11 +316,17 @@ app_again : {A : Type 0} (hosts : List (Host A)) (client app : ℕ) (name : List
 unfolding meaning_of_words
 app_again hosts client app name words fit host ascii = rw (not_client hosts name app fit host, not_board hosts name app fit host, host_again hosts name app fit host ascii) refl
 
-call_line_again : (client app : ℕ) (post : Bool) (words : List (List ℕ)) (call : Call) (fill : ℕ) → AllByRecursion IsAsciiWord (post_words post ++ words) → IsCall words call fill
+session_line_again : (client app : ℕ) (post : Bool) (words : List (List ℕ)) (call : Call) (fill : ℕ) → AllByRecursion IsAsciiWord (post_words post ++ words) → IsCall words call fill
     → app_line client app (post_words post ++ words) ≡ Some (record { meaning = Script (lines.Call app client post call); fills = fill })
 unfolding app_line call_line
-call_line_again client app true words call fill ascii h = rw (call_again words call fill ascii.1 h) refl
-call_line_again client app false words call fill ascii h = call_verb client app words call fill h ∙ rw (call_again words call fill ascii h) refl
+session_line_again client app true words call fill ascii h = rw (call_again words call fill ascii.1 h) refl
+session_line_again client app false words call fill ascii h = call_verb client app words call fill h ∙ rw (call_again words call fill ascii h) refl
+
+call_line_again : (client app : ℕ) (post : Bool) (words : List (List ℕ)) (call : Call) (fill : ℕ) → AllByRecursion IsAsciiWord words → IsCallLine words post call fill
+    → app_line client app words ≡ Some (record { meaning = Script (lines.Call app client post call); fills = fill })
+call_line_again client app post words call fill ascii (inl h) =
+    ap (app_line client app) h.2 ∙ session_line_again client app post h.0 call fill (subst (AllByRecursion IsAsciiWord) h.2 ascii) h.1
+call_line_again client app post words call fill ascii (inr h) = memory_again client app words call h.0 ∙ rw (h.1, h.2) refl
 
 turns_again : (client app instance count : ℕ) (a b : List ℕ) → IsNumber a instance → IsNumber b count → 1 ≤ instance → instance ≤ MAX_INSTANCES → 1 ≤ count → count ≤ MAX_LINE_TURNS
     → app_line client app (codes "turn" ∷ a ∷ b ∷ []) ≡ Some (plain_line (lines.Turns app client instance count))
@@ -339,9 +363,9 @@ line_again : {A : Type 0} (hosts : List (Host A)) (client : ℕ) (line : List �
     → meaning_of_words hosts client words ≡ Some (record { meaning = Script told; fills = fill })
 unfolding IsLine
 line_again hosts client line words (lines.Call app owner post call) fill fit ascii are h =
-    let each = words_ascii line (h.1 ∷ post_words post ++ h.2) (subst (AreWords line) h.5 are) ascii in
+    let each = words_ascii line (h.1 ∷ h.2) (subst (AreWords line) h.5 are) ascii in
     ap (meaning_of_words hosts client) h.5
-    ∙ app_again hosts client app h.1 (post_words post ++ h.2) fit h.3 each.0
+    ∙ app_again hosts client app h.1 h.2 fit h.3 each.0
     ∙ call_line_again client app post h.2 call fill each.1 h.4
     ∙ ap (λ (c : ℕ). Some (record { meaning = Script (lines.Call app c post call); fills = fill })) (sym h.0)
 line_again hosts client line words (lines.Turns app owner instance count) fill fit ascii are h =

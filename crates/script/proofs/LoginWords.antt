@@ -1,5 +1,5 @@
 -- The word of a login: as the grammar has it, as it is computed, and as it is printed.
-use Rattle.std.proofs.Common.{◌≡◌, ◌≢◌, ℕ, zero, suc, ◌+◌, ◌-◌, ◌*◌, ◌<◌, Bool, true, false, cond, ◌&&◌, eqb, ltb, List, [], ◌∷◌, ◌++◌, length, take, drop, get_or, Option, Some, None}
+use Rattle.std.proofs.Common.{◌≡◌, ◌≢◌, ℕ, zero, suc, ◌+◌, ◌-◌, ◌*◌, ◌<◌, ◌≤◌, Bool, true, false, cond, ◌&&◌, eqb, ltb, List, [], ◌∷◌, ◌++◌, length, take, drop, get_or, Option, Some, None}
 use Rattle.std.proofs.Common.{refl, sym, ap, subst, ◌∙◌, arith, inl, inr}
 use Rattle.std.specs.Prelude.{All, codes, if◌then◌else◌}
 use Rattle.std.specs.List.{AllByRecursion, list_all}
@@ -15,15 +15,15 @@ use Rattle.uuid.proofs.TextLemmas.{by_index_length, nibble_small}
 use Rattle.app_api.specs.declared.login.Login.{Login}
 use Rattle.app_api.specs.declared.login.Login.TheVariants.{User, Group, App}
 use Rattle.app_api.specs.declared.param.Param.{Param}
-use Rattle.app_api.specs.declared.param.Param.TheVariants.{Nothing, ValueIn, ValueOut, ValueInOut, MemIn, MemOut, MemInOut}
+use Rattle.app_api.specs.declared.param.Param.TheVariants.{Nothing, ValueIn, ValueOut, ValueInOut, MemIn, MemOut, MemInOut, Whole, Part}
 use Rattle.script.specs.Grammar.{IsLogin}
 use Rattle.script.specs.Lines.{all_ascii, begins_with, id_of, login_in, rest_after}
 use Rattle.script.specs.Numbers.{number32_of}
-use Rattle.script.specs.Words.{IsNumber32, IsParam}
+use Rattle.script.specs.Words.{IsNumber32, IsParam, part_front}
 use Rattle.script.proofs.Cuts.{all_append}
 use Rattle.script.proofs.Decimals.{IsGraphic, number32_again, number32_reads}
 use Rattle.script.proofs.HexDigits.{chosen}
-use Rattle.script.proofs.ParamWords.{is_word, some_bind}
+use Rattle.script.proofs.ParamWords.{by_way, is_word, some_bind}
 
 -- ---- what is read as a login is its word
 
@@ -80,6 +80,10 @@ pub app_again : (text id : List ℕ) → all_ascii text ≡ true → parsed text
 unfolding login_in
 app_again text id ascii is = rw (ascii, is) refl
 
+part_again : (x y z : List ℕ) (way : ℕ) → 1 ≤ way → way ≤ 3 → login_in (part_front way ++ x ++ codes ":" ++ y ++ codes ":" ++ z) ≡ Some None
+unfolding login_in
+part_again x y z way some most = by_way (λ w. login_in (part_front w ++ x ++ codes ":" ++ y ++ codes ":" ++ z) ≡ Some None) way some most refl refl refl
+
 -- the word of a parameter says no login
 pub param_again : (word : List ℕ) (param : Param) (fill : ℕ) → IsParam word param fill → login_in word ≡ Some None
 unfolding login_in IsParam
@@ -91,6 +95,8 @@ param_again word (MemIn bytes) fill (inl h) = ap login_in h.0.2
 param_again word (MemIn bytes) fill (inr h) = ap login_in h.5
 param_again word (MemOut size) fill h = ap login_in h.0.2
 param_again word (MemInOut bytes) fill h = ap login_in h.0.2
+param_again word (Whole block) fill h = ap login_in h.0.2
+param_again word (Part block way at size) fill h = ap login_in h.0.8 ∙ part_again h.0.2 h.0.3 h.0.4 way h.0.0 h.0.1
 
 -- ---- an identifier that is read is sixteen bytes
 

@@ -1,5 +1,5 @@
 -- The words of parameters, and of all parameters of a line.
-use Rattle.std.proofs.Common.{◌≡◌, ℕ, ◌+◌, ◌<◌, ◌≤◌, ◌^◌, Bool, true, false, ◌&&◌, not, eqb, leb, ltb, List, [], ◌∷◌, ◌++◌, length, map}
+use Rattle.std.proofs.Common.{◌≡◌, ℕ, zero, suc, ◌+◌, ◌<◌, ◌≤◌, ◌^◌, Bool, true, false, ◌&&◌, not, eqb, leb, ltb, List, [], ◌∷◌, ◌++◌, length, map}
 use Rattle.std.proofs.Common.{replicate, Option, Some, None, refl, sym, ap, subst, ◌∙◌, append_assoc, arith, inl, inr, zero-add}
 use Rattle.std.specs.Prelude.{codes}
 use Rattle.std.specs.List.{AllByRecursion, slice_split, join_with_byte}
@@ -12,17 +12,17 @@ use Rattle.std.proofs.lemmas.Option.{cond_some, none-some, same_Some}
 use Rattle.std.proofs.lemmas.Slice.Eq.{bytes_eq-Decides}
 use Rattle.tee_base.specs.declared.limits.TheConstants.{MAX_ASK_BYTES}
 use Rattle.app_api.specs.declared.param.Param.{Param}
-use Rattle.app_api.specs.declared.param.Param.TheVariants.{Nothing, ValueIn, ValueOut, ValueInOut, MemIn, MemOut, MemInOut}
+use Rattle.app_api.specs.declared.param.Param.TheVariants.{Nothing, ValueIn, ValueOut, ValueInOut, MemIn, MemOut, MemInOut, Whole, Part}
 use Rattle.app_api.specs.declared.param.Params.{Params}
 use Rattle.app_api.specs.Params.{params_of}
 use Rattle.script.specs.declared.param.Parameter.{Parameter}
 use Rattle.script.specs.declared.param.Parameters.{Parameters}
 use Rattle.script.specs.Numbers.{number32_of}
-use Rattle.script.specs.Parameters.{◌>>=◌, hex_of, plain_parameter, parameter_of_one, parameter_of_two, parameter_of_three}
-use Rattle.script.specs.Parameters.{parameter_of_parts, parameter_of, parameter_at, parameters_of, with_numbers, fill_parameter}
-use Rattle.script.specs.Words.{AreParams, IsFilled, IsMemory, IsPair, IsParam}
+use Rattle.script.specs.Parameters.{◌>>=◌, hex_of, plain_parameter, parameter_of_one, parameter_of_two, parameter_of_three, parameter_of_four}
+use Rattle.script.specs.Parameters.{parameter_of_parts, parameter_of, parameter_at, parameters_of, part_with, with_numbers, fill_parameter}
+use Rattle.script.specs.Words.{AreParams, IsFilled, IsMemory, IsPair, IsParam, IsPart, part_front}
 use Rattle.script.proofs.Cuts.{Lacks, all_append, all_weaker, cut_joined, joined}
-use Rattle.script.proofs.Decimals.{IsGraphic, IsPart, digits_part, number32_again, number32_reads}
+use Rattle.script.proofs.Decimals.{IsGraphic, IsPartByte, digits_part, number32_again, number32_reads}
 use Rattle.script.proofs.HexDigits.{chosen, hex_again, hex_part, hex_reads}
 
 -- ---- steps that gave a value
@@ -49,6 +49,13 @@ filled_some (Some size) (Some (byte ∷ [])) p e =
     (size, byte, refl, refl, leb-true size MAX_ASK_BYTES t.0, t.1)
 filled_some (Some size) (Some (byte ∷ other ∷ bytes)) p e = absurd (none-some p e)
 
+part_with_some : (way : ℕ) (o q r : Option ℕ) (p : Parameter) → part_with way o q r ≡ Some p
+    → (block at size : ℕ) × (o ≡ Some block) × (q ≡ Some at) × (r ≡ Some size) × (plain_parameter (Part block way at size) ≡ p)
+part_with_some way None q r p e = absurd (none-some p e)
+part_with_some way (Some block) None r p e = absurd (none-some p e)
+part_with_some way (Some block) (Some at) None p e = absurd (none-some p e)
+part_with_some way (Some block) (Some at) (Some size) p e = (block, at, size, refl, refl, refl, same_Some (plain_parameter (Part block way at size)) p e)
+
 pub is_word : (k w : List ℕ) → bytes_eq k w ≡ true → k ≡ w
 is_word k w e = (bytes_eq-Decides k w).0 e
 
@@ -59,6 +66,9 @@ two_parts k word a e = ap (λ (w : List ℕ). w ++ 58 ∷ a) e
 
 three_parts : (k word a b : List ℕ) → k ≡ word → k ++ 58 ∷ (a ++ 58 ∷ b) ≡ (word ++ 58 ∷ []) ++ a ++ (58 ∷ []) ++ b
 three_parts k word a b e = rw e (simp append_assoc)
+
+four_parts : (k word front a b c : List ℕ) → k ≡ word → word ++ 58 ∷ [] ≡ front → k ++ 58 ∷ (a ++ 58 ∷ (b ++ 58 ∷ c)) ≡ front ++ a ++ (58 ∷ []) ++ b ++ (58 ∷ []) ++ c
+four_parts k word front a b c e f = rw (e, sym f) (simp append_assoc)
 
 one_reads : (k : List ℕ) (p : Parameter) → parameter_of_one k ≡ Some p → IsParam k p.param p.fill
 unfolding parameter_of_one IsParam
@@ -83,7 +93,11 @@ two_reads k a p e =
         | inr g ↦ elim (chosen (bytes_eq k (codes "mo")) _ _ _ g.1) [
           | inl h ↦ let m = option_map_some (λ x. plain_parameter (MemOut x)) (number32_of a) p h.1 in
               subst (λ (q : Parameter). IsParam (k ++ 58 ∷ a) q.param q.fill) m.2 ((a, number32_reads a m.0 m.1, two_parts k (codes "mo") a (is_word k (codes "mo") h.0)), refl)
-          | inr none ↦ absurd (none-some p none.1)
+          | inr i ↦ elim (chosen (bytes_eq k (codes "sw")) _ _ _ i.1) [
+            | inl h ↦ let m = option_map_some (λ x. plain_parameter (Whole x)) (number32_of a) p h.1 in
+                subst (λ (q : Parameter). IsParam (k ++ 58 ∷ a) q.param q.fill) m.2 ((a, number32_reads a m.0 m.1, two_parts k (codes "sw") a (is_word k (codes "sw") h.0)), refl)
+            | inr none ↦ absurd (none-some p none.1)
+          ]
         ]
       ]
     ]
@@ -124,12 +138,35 @@ three_reads k a b p e =
       ]
     ]
 
+part_reads : (k kind a b c : List ℕ) (way : ℕ) (p : Parameter) → 1 ≤ way → way ≤ 3 → kind ++ 58 ∷ [] ≡ part_front way → k ≡ kind
+    → part_with way (number32_of a) (number32_of b) (number32_of c) ≡ Some p → IsParam (k ++ 58 ∷ (a ++ 58 ∷ (b ++ 58 ∷ c))) p.param p.fill
+unfolding IsParam
+part_reads k kind a b c way p some most front is e =
+    let m = part_with_some way (number32_of a) (number32_of b) (number32_of c) p e in
+    subst (λ (q : Parameter). IsParam (k ++ 58 ∷ (a ++ 58 ∷ (b ++ 58 ∷ c))) q.param q.fill) m.6
+    ((some, most, a, b, c, number32_reads a m.0 m.3, number32_reads b m.1 m.4, number32_reads c m.2 m.5, four_parts k kind (part_front way) a b c is front), refl)
+
+four_reads : (k a b c : List ℕ) (p : Parameter) → parameter_of_four k a b c ≡ Some p → IsParam (k ++ 58 ∷ (a ++ 58 ∷ (b ++ 58 ∷ c))) p.param p.fill
+unfolding parameter_of_four
+four_reads k a b c p e =
+    elim (chosen (bytes_eq k (codes "si")) _ _ _ e) [
+      | inl h ↦ part_reads k (codes "si") a b c 1 p (omega arith) (omega arith) refl (is_word k (codes "si") h.0) h.1
+      | inr f ↦ elim (chosen (bytes_eq k (codes "so")) _ _ _ f.1) [
+        | inl h ↦ part_reads k (codes "so") a b c 2 p (omega arith) (omega arith) refl (is_word k (codes "so") h.0) h.1
+        | inr g ↦ elim (chosen (bytes_eq k (codes "sio")) _ _ _ g.1) [
+          | inl h ↦ part_reads k (codes "sio") a b c 3 p (omega arith) (omega arith) refl (is_word k (codes "sio") h.0) h.1
+          | inr none ↦ absurd (none-some p none.1)
+        ]
+      ]
+    ]
+
 parts_read : (parts : List (List ℕ)) (p : Parameter) → parameter_of_parts parts ≡ Some p → IsParam (join_with_byte 58 parts) p.param p.fill
 parts_read [] p e = absurd (none-some p e)
 parts_read (k ∷ []) p e = one_reads k p e
 parts_read (k ∷ a ∷ []) p e = two_reads k a p e
 parts_read (k ∷ a ∷ b ∷ []) p e = three_reads k a b p e
-parts_read (k ∷ a ∷ b ∷ c ∷ more) p e = absurd (none-some p e)
+parts_read (k ∷ a ∷ b ∷ c ∷ []) p e = four_reads k a b c p e
+parts_read (k ∷ a ∷ b ∷ c ∷ d ∷ more) p e = absurd (none-some p e)
 
 parameter_reads : (word : List ℕ) (p : Parameter) → parameter_of word ≡ Some p → IsParam word p.param p.fill
 parameter_reads word p e = subst (λ (w : List ℕ). IsParam w p.param p.fill) (join_with_byte-slice_split 58 word) (parts_read (slice_split (λ c. eqb c 58) word) p e)
@@ -154,7 +191,7 @@ abbrev are_parts : List ℕ → Bool
 are_parts [] = true
 are_parts (c ∷ cs) = (is_graphic c && not (eqb c 58)) && are_parts cs
 
-word_part : (cs : List ℕ) → are_parts cs ≡ true → AllByRecursion IsPart cs
+word_part : (cs : List ℕ) → are_parts cs ≡ true → AllByRecursion IsPartByte cs
 word_part [] e = tt
 word_part (c ∷ cs) e =
     let p = and_parts (is_graphic c && not (eqb c 58)) (are_parts cs) e in
@@ -166,8 +203,8 @@ record Parted (word : List ℕ) (p : Parameter) : Type 0 where
   kind : List ℕ
   parts : List (List ℕ)
   whole : word ≡ kind ++ joined 58 parts
-  kind_part : AllByRecursion IsPart kind
-  each_part : AllByRecursion (AllByRecursion IsPart) parts
+  kind_part : AllByRecursion IsPartByte kind
+  each_part : AllByRecursion (AllByRecursion IsPartByte) parts
   reads : parameter_of_parts (kind ∷ parts) ≡ Some p
 
 one_part : (word a : List ℕ) → (word ++ 58 ∷ []) ++ a ≡ word ++ joined 58 (a ∷ [])
@@ -176,16 +213,19 @@ one_part word a = simp (append_assoc, append-nil)
 both_parts : (word a b : List ℕ) → (word ++ 58 ∷ []) ++ a ++ (58 ∷ []) ++ b ≡ word ++ joined 58 (a ∷ b ∷ [])
 both_parts word a b = simp (append_assoc, append-nil)
 
+three_parts_joined : (word a b c : List ℕ) → (word ++ 58 ∷ []) ++ a ++ (58 ∷ []) ++ b ++ (58 ∷ []) ++ c ≡ word ++ joined 58 (a ∷ b ∷ c ∷ [])
+three_parts_joined word a b c = simp (append_assoc, append-nil)
+
 memory_parted : (kind word bytes : List ℕ) (fill : ℕ) (make : List ℕ → Param) (is_part : are_parts kind ≡ true)
     → ((digits : List ℕ) → parameter_of_parts (kind ∷ digits ∷ []) ≡ option_map (λ x. plain_parameter (make x)) (hex_of digits))
     → IsMemory (kind ++ 58 ∷ []) word bytes → fill ≡ 0 → Parted word (record { param = make bytes; fill = fill })
-memory_parted kind word bytes fill make is_part reads h zero = record {
+memory_parted kind word bytes fill make is_part reads h none = record {
   kind = kind;
   parts = h.0 ∷ [];
   whole = h.2 ∙ one_part kind h.0;
   kind_part = word_part kind is_part;
   each_part = (hex_part h.0 bytes h.1, tt);
-  reads = reads h.0 ∙ rw (hex_again h.0 bytes h.1, zero) refl;
+  reads = reads h.0 ∙ rw (hex_again h.0 bytes h.1, none) refl;
 }
 
 filled_parted : (word bytes : List ℕ) (fill : ℕ) → IsFilled word bytes fill → Parted word (record { param = MemIn bytes; fill = fill })
@@ -205,17 +245,37 @@ filled_parted word bytes fill h =
 numbers_parted : (kind word : List ℕ) (a b fill : ℕ) (make : ℕ → ℕ → Param) (is_part : are_parts kind ≡ true)
     → ((x y : List ℕ) → parameter_of_parts (kind ∷ x ∷ y ∷ []) ≡ with_numbers make (number32_of x) (number32_of y))
     → IsPair (kind ++ 58 ∷ []) word a b → fill ≡ 0 → Parted word (record { param = make a b; fill = fill })
-numbers_parted kind word a b fill make is_part reads h zero = record {
+numbers_parted kind word a b fill make is_part reads h none = record {
   kind = kind;
   parts = h.0 ∷ h.1 ∷ [];
   whole = h.4 ∙ both_parts kind h.0 h.1;
   kind_part = word_part kind is_part;
   each_part = (digits_part h.0 h.2.0.0.1, (digits_part h.1 h.3.0.0.1, tt));
-  reads = reads h.0 h.1 ∙ rw (number32_again h.0 a h.2, number32_again h.1 b h.3, zero) refl;
+  reads = reads h.0 h.1 ∙ rw (number32_again h.0 a h.2, number32_again h.1 b h.3, none) refl;
+}
+
+-- a way is that of an input, of an output or of both
+pub by_way : (P : ℕ → Type 0) (way : ℕ) → 1 ≤ way → way ≤ 3 → P 1 → P 2 → P 3 → P way
+by_way P zero some most input output both = absurd (omega (arith, some))
+by_way P (suc zero) some most input output both = input
+by_way P (suc (suc zero)) some most input output both = output
+by_way P (suc (suc (suc zero))) some most input output both = both
+by_way P (suc (suc (suc (suc more)))) some most input output both = absurd (omega (arith, most))
+
+part_parted : (kind word : List ℕ) (block way at size fill : ℕ) (is_part : are_parts kind ≡ true)
+    → ((x y z : List ℕ) → parameter_of_parts (kind ∷ x ∷ y ∷ z ∷ []) ≡ part_with way (number32_of x) (number32_of y) (number32_of z))
+    → part_front way ≡ kind ++ 58 ∷ [] → fill ≡ 0 → IsPart word block way at size → Parted word (record { param = Part block way at size; fill = fill })
+part_parted kind word block way at size fill is_part reads front none h = record {
+  kind = kind;
+  parts = h.2 ∷ h.3 ∷ h.4 ∷ [];
+  whole = h.8 ∙ ap (λ (f : List ℕ). f ++ h.2 ++ codes ":" ++ h.3 ++ codes ":" ++ h.4) front ∙ three_parts_joined kind h.2 h.3 h.4;
+  kind_part = word_part kind is_part;
+  each_part = (digits_part h.2 h.5.0.0.1, (digits_part h.3 h.6.0.0.1, (digits_part h.4 h.7.0.0.1, tt)));
+  reads = reads h.2 h.3 h.4 ∙ rw (number32_again h.2 block h.5, number32_again h.3 at h.6, number32_again h.4 size h.7, none) refl;
 }
 
 parted : (word : List ℕ) (param : Param) (fill : ℕ) → IsParam word param fill → Parted word (record { param = param; fill = fill })
-unfolding IsParam parameter_of_one parameter_of_two parameter_of_three
+unfolding IsParam parameter_of_one parameter_of_two parameter_of_three parameter_of_four
 parted word Nothing fill h = record { kind = codes "-"; parts = []; whole = h.0; kind_part = word_part (codes "-") refl; each_part = tt; reads = rw h.1 refl }
 parted word (ValueIn a b) fill h = numbers_parted (codes "vi") word a b fill ValueIn refl (λ x y. refl) h.0 h.1
 parted word ValueOut fill h = record { kind = codes "vo"; parts = []; whole = h.0; kind_part = word_part (codes "vo") refl; each_part = tt; reads = rw h.1 refl }
@@ -231,21 +291,34 @@ parted word (MemOut size) fill h = record {
   reads = rw (number32_again h.0.0 size h.0.1, h.1) refl;
 }
 parted word (MemInOut bytes) fill h = memory_parted (codes "mio") word bytes fill MemInOut refl (λ d. refl) h.0 h.1
+parted word (Whole block) fill h = record {
+  kind = codes "sw";
+  parts = h.0.0 ∷ [];
+  whole = h.0.2 ∙ one_part (codes "sw") h.0.0;
+  kind_part = word_part (codes "sw") refl;
+  each_part = (digits_part h.0.0 h.0.1.0.0.1, tt);
+  reads = rw (number32_again h.0.0 block h.0.1, h.1) refl;
+}
+parted word (Part block way at size) fill h =
+    by_way (λ w. IsPart word block w at size → Parted word (record { param = Part block w at size; fill = fill })) way h.0.0 h.0.1
+    (part_parted (codes "si") word block 1 at size fill refl (λ x y z. refl) refl h.1)
+    (part_parted (codes "so") word block 2 at size fill refl (λ x y z. refl) refl h.1)
+    (part_parted (codes "sio") word block 3 at size fill refl (λ x y z. refl) refl h.1) h.0
 
-part_lacks : (xs : List ℕ) → AllByRecursion IsPart xs → Lacks 58 xs
-part_lacks xs h = all_weaker IsPart (λ c. eqb c 58 ≡ false) (λ c p. p.1) xs h
+part_lacks : (xs : List ℕ) → AllByRecursion IsPartByte xs → Lacks 58 xs
+part_lacks xs h = all_weaker IsPartByte (λ c. eqb c 58 ≡ false) (λ c p. p.1) xs h
 
 parameter_again : (word : List ℕ) (param : Param) (fill : ℕ) → IsParam word param fill → parameter_of word ≡ Some (record { param = param; fill = fill })
 parameter_again word param fill h =
     let p = parted word param fill h in
     ap parameter_of p.whole
-    ∙ ap parameter_of_parts (cut_joined 58 p.kind p.parts (part_lacks p.kind p.kind_part) (all_weaker (AllByRecursion IsPart) (Lacks 58) part_lacks p.parts p.each_part))
+    ∙ ap parameter_of_parts (cut_joined 58 p.kind p.parts (part_lacks p.kind p.kind_part) (all_weaker (AllByRecursion IsPartByte) (Lacks 58) part_lacks p.parts p.each_part))
     ∙ p.reads
 
-part_graphic : (xs : List ℕ) → AllByRecursion IsPart xs → AllByRecursion IsGraphic xs
-part_graphic xs h = all_weaker IsPart IsGraphic (λ c p. p.0) xs h
+part_graphic : (xs : List ℕ) → AllByRecursion IsPartByte xs → AllByRecursion IsGraphic xs
+part_graphic xs h = all_weaker IsPartByte IsGraphic (λ c p. p.0) xs h
 
-parts_graphic : (parts : List (List ℕ)) → AllByRecursion (AllByRecursion IsPart) parts → AllByRecursion IsGraphic (joined 58 parts)
+parts_graphic : (parts : List (List ℕ)) → AllByRecursion (AllByRecursion IsPartByte) parts → AllByRecursion IsGraphic (joined 58 parts)
 parts_graphic [] h = tt
 parts_graphic (part ∷ parts) h = ((omega arith, omega arith), all_append IsGraphic part (joined 58 parts) (part_graphic part h.0) (parts_graphic parts h.1))
 

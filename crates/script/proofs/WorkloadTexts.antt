@@ -23,8 +23,9 @@ use Rattle.script.specs.Canonical.{call_words, canonical, name_at, params_words}
 use Rattle.script.specs.Grammar.{IsCall, IsHost, IsLine, Reads}
 use Rattle.script.specs.Words.{IsNumber32, IsParam}
 use Rattle.script.specs.Workload.{byte, call_line, draw_at, drawn_for, line_at, line_of, params, state_after, workload_of}
-use Rattle.script.proofs.CanonicalTexts.{CanPrint, CanStand, can_stand, name_is, none_prints, params_printed, printed_reads}
+use Rattle.script.proofs.CanonicalTexts.{CanStand, can_stand, name_is, printed_reads}
 use Rattle.script.proofs.Decimals.{decimal_number}
+use Rattle.script.proofs.PrintedWords.{CanPrint, none_prints, params_printed}
 
 number32 : (n : ℕ) → n < 2 ^ 32 → IsNumber32 (decimal n) n
 number32 n small = (decimal_number n (omega (arith, small)), small)
@@ -79,7 +80,7 @@ module _ {A : Type 0} (hosts : List (Host A)) (fit : HostsFit hosts) where
   unfolding IsPrintable IsLine
   call_stands app call known says =
       can_stand hosts CLIENT (name_at hosts app ∷ call_words call) (call_line app call) 0 fit (omega arith)
-      (refl, name_at hosts app, call_words call, is_host app known, says, refl)
+      (refl, name_at hosts app, call_words call, is_host app known, inl (call_words call, says, refl), refl)
 
   turns_stand : (app instance : ℕ) → app < length hosts → 1 ≤ instance → instance ≤ 4 → CanStand hosts (lines.Turns app CLIENT instance LINE_TURNS)
   unfolding IsLine

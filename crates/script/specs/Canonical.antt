@@ -9,11 +9,12 @@ use Rattle.app_api.specs.declared.host.Host.{Host}
 use Rattle.app_api.specs.declared.login.Login.{Login}
 use Rattle.app_api.specs.declared.login.Login.TheVariants.{Public, User, Group, App}
 use Rattle.app_api.specs.declared.param.Param.{Param}
-use Rattle.app_api.specs.declared.param.Param.TheVariants.{Nothing, ValueIn, ValueOut, ValueInOut, MemIn, MemOut, MemInOut}
+use Rattle.app_api.specs.declared.param.Param.TheVariants.{Nothing, ValueIn, ValueOut, ValueInOut, MemIn, MemOut, MemInOut, Whole, Part}
 use Rattle.app_api.specs.Params.{params_of}
 use Rattle.script.specs.declared.line.Line.{Line}
 use Rattle.script.specs.declared.line.Line.TheVariants as lines
 use Rattle.script.specs.Grammar.{names_of, post_words}
+use Rattle.script.specs.Words.{part_front}
 use Rattle.uuid.specs.Text.{hyphenated_text, lower}
 
 -- numbers have no zeros before them, bytes have lower-case digits, and every memory input is in its digits
@@ -25,6 +26,8 @@ param_word (ValueInOut a b) = codes "vio:" ++ decimal a ++ codes ":" ++ decimal 
 param_word (MemIn bytes) = codes "mi:" ++ encode_lower bytes
 param_word (MemOut size) = codes "mo:" ++ decimal size
 param_word (MemInOut bytes) = codes "mio:" ++ encode_lower bytes
+param_word (Whole block) = codes "sw:" ++ decimal block
+param_word (Part block way at size) = part_front way ++ decimal block ++ codes ":" ++ decimal at ++ codes ":" ++ decimal size
 
 -- the parameter is none
 abbrev pub is_none : Param → Bool
@@ -35,6 +38,8 @@ is_none (ValueInOut a b) = false
 is_none (MemIn bytes) = false
 is_none (MemOut size) = false
 is_none (MemInOut bytes) = false
+is_none (Whole block) = false
+is_none (Part block way at size) = false
 
 -- each of these parameters is none
 abbrev pub are_none : List Param → Bool
@@ -58,6 +63,10 @@ abbrev pub call_words : Call → List (List ℕ)
 call_words (calls.Open label login params) = codes "open" ∷ decimal label ∷ login_words login ++ params_words (params_of params)
 call_words (calls.Invoke label command params) = codes "invoke" ∷ decimal label ∷ decimal command ∷ params_words (params_of params)
 call_words (calls.Close label) = codes "close" ∷ decimal label ∷ []
+call_words (calls.Share block flags size) = codes "share" ∷ decimal block ∷ decimal flags ∷ decimal size ∷ []
+call_words (calls.Fill block at bytes) = codes "fill" ∷ decimal block ∷ decimal at ∷ encode_lower bytes ∷ []
+call_words (calls.Show block) = codes "show" ∷ decimal block ∷ []
+call_words (calls.Unshare block) = codes "unshare" ∷ decimal block ∷ []
 
 -- the name of the host of this index
 abbrev pub name_at : {A : Type 0} → List (Host A) → ℕ → List ℕ

@@ -1,8 +1,9 @@
 -- The grammar of a script, by cases on its lines and their words.
-use Rattle.std.specs.Prelude.{ℕ, ◌≡◌, ◌≢◌, ◌+◌, ◌^◌, ◌-◌, ◌<◌, ◌≤◌, ◌⊎◌, Bool, true, false, List, [], ◌∷◌, ◌++◌, Some, codes, length, map, slice_get, slice_index}
+use Rattle.std.specs.Prelude.{ℕ, ◌≡◌, ◌≢◌, ◌+◌, ◌^◌, ◌-◌, ◌<◌, ◌≤◌, ◌⊎◌, Bool, true, false, List, [], ◌∷◌, ◌++◌, Ok, Some, codes, length, map, slice_get, slice_index}
 use Rattle.std.specs.List.{AllByRecursion, flat_map}
 use Rattle.std.specs.Str.{IsAscii}
 use Rattle.std.specs.Str.Lines.{strip_carriage_return}
+use Rattle.hex.specs.Hex.{decode_of}
 use Rattle.uuid.specs.Text.{parsed}
 use Rattle.tee_base.specs.declared.limits.TheConstants.{MAX_CLIENTS, MAX_FILL_BYTES, MAX_FUSE_CALLS, MAX_INSTANCES, MAX_LINE_TURNS}
 use Rattle.app_api.specs.declared.call.Call.{Call}
@@ -35,7 +36,7 @@ IsLogin words (User number) = (digits : List ℕ) × IsNumber32 digits number ×
 IsLogin words (Group number) = (digits : List ℕ) × IsNumber32 digits number × (words ≡ (codes "group:" ++ digits) ∷ [])
 IsLogin words (App id) = (text : List ℕ) × (parsed text ≡ Some id) × (words ≡ (codes "app:" ++ text) ∷ [])
 
--- the words of a call, for whose parameters so many bytes are filled in
+-- the words of a call about a session, for whose parameters so many bytes are filled in
 unfoldable pub IsCall : List (List ℕ) → Call → ℕ → Type 0
 IsCall words (calls.Open label login params) fill =
     (session : List ℕ) × (who others : List (List ℕ)) × IsNumber32 session label × IsLogin who login
@@ -45,17 +46,40 @@ IsCall words (calls.Invoke label command params) fill =
     × (words ≡ codes "invoke" ∷ session ∷ number ∷ others)
 IsCall words (calls.Close label) fill =
     (session : List ℕ) × IsNumber32 session label × (words ≡ codes "close" ∷ session ∷ []) × (fill ≡ 0)
+IsCall words (calls.Share block flags size) fill = ⊥
+IsCall words (calls.Fill block at bytes) fill = ⊥
+IsCall words (calls.Show block) fill = ⊥
+IsCall words (calls.Unshare block) fill = ⊥
+
+-- the words of a call about shared memory; one that fills a block has a byte at least
+unfoldable pub IsMemoryCall : List (List ℕ) → Call → Type 0
+IsMemoryCall words (calls.Open label login params) = ⊥
+IsMemoryCall words (calls.Invoke label command params) = ⊥
+IsMemoryCall words (calls.Close label) = ⊥
+IsMemoryCall words (calls.Share block flags size) =
+    (x y z : List ℕ) × IsNumber32 x block × IsNumber32 y flags × IsNumber32 z size × (words ≡ codes "share" ∷ x ∷ y ∷ z ∷ [])
+IsMemoryCall words (calls.Fill block at bytes) =
+    (x y digits : List ℕ) × IsNumber32 x block × IsNumber32 y at × (decode_of digits ≡ Ok bytes) × (bytes ≢ [])
+    × (words ≡ codes "fill" ∷ x ∷ y ∷ digits ∷ [])
+IsMemoryCall words (calls.Show block) = (x : List ℕ) × IsNumber32 x block × (words ≡ codes "show" ∷ x ∷ [])
+IsMemoryCall words (calls.Unshare block) = (x : List ℕ) × IsNumber32 x block × (words ≡ codes "unshare" ∷ x ∷ [])
 
 -- the word before a call that gets no turns
 abbrev pub post_words : Bool → List (List ℕ)
 post_words true = codes "post" ∷ []
 post_words false = []
 
+-- the words of a call after the name of its application: `post` may stand before a call about a session alone
+abbrev pub IsCallLine : List (List ℕ) → Bool → Call → ℕ → Type 0
+IsCallLine words post call fill =
+    ((others : List (List ℕ)) × IsCall others call fill × (words ≡ post_words post ++ others))
+    ⊎ (IsMemoryCall words call × (post ≡ false) × (fill ≡ 0))
+
 -- the words of a script's line that this client makes, for which so many bytes are filled in
 unfoldable pub IsLine : {A : Type 0} → List (Host A) → ℕ → List (List ℕ) → Line → ℕ → Type 0
 IsLine hosts client words (lines.Call app owner post call) fill =
-    (owner ≡ client) × (name : List ℕ) × (others : List (List ℕ)) × IsHost hosts name app × IsCall others call fill
-    × (words ≡ name ∷ post_words post ++ others)
+    (owner ≡ client) × (name : List ℕ) × (others : List (List ℕ)) × IsHost hosts name app × IsCallLine others post call fill
+    × (words ≡ name ∷ others)
 IsLine hosts client words (lines.Turns app owner instance count) fill =
     (owner ≡ client) × (name number turns : List ℕ) × IsHost hosts name app × IsNumber number instance × IsNumber turns count
     × (1 ≤ instance) × (instance ≤ MAX_INSTANCES) × (1 ≤ count) × (count ≤ MAX_LINE_TURNS)

@@ -4,6 +4,7 @@ use Rattle.std.specs.List.{filter, list_all, slice_split}
 use Rattle.std.specs.Str.{bytes_eq}
 use Rattle.uuid.specs.Text.{parsed}
 use Rattle.tee_base.specs.declared.limits.TheConstants.{MAX_CLIENTS, MAX_FUSE_CALLS, MAX_INSTANCES, MAX_LINE_TURNS}
+use Rattle.app_api.specs.declared.call.Call.{Call}
 use Rattle.app_api.specs.declared.call.Call.TheVariants as calls
 use Rattle.app_api.specs.declared.host.Host.{Host}
 use Rattle.app_api.specs.declared.login.Login.{Login}
@@ -14,7 +15,7 @@ use Rattle.script.specs.declared.line.Meaning.TheVariants.{Nothing, Client, Scri
 use Rattle.script.specs.declared.line.ReadCall.{ReadCall}
 use Rattle.script.specs.declared.line.ReadMeaning.{ReadMeaning}
 use Rattle.script.specs.Numbers.{number_of, number32_of, within}
-use Rattle.script.specs.Parameters.{◌>>=◌, parameters_of}
+use Rattle.script.specs.Parameters.{◌>>=◌, hex_of, parameters_of}
 use Rattle.tee_base.specs.Words.{Text}
 
 -- the word isn't empty
@@ -101,7 +102,7 @@ unfoldable pub closed_by : List ℕ → List (List ℕ) → Option ReadCall
 closed_by label [] = number32_of label >>= λ l. Some (record { call = calls.Close l; fills = 0 })
 closed_by label (word ∷ words) = None
 
--- a call: its verb, the client's label for the session, and what follows
+-- a call about a session: its verb, the client's label for the session, and what follows
 unfoldable pub call_of : List (List ℕ) → Option ReadCall
 call_of [] = None
 call_of (verb ∷ []) = None
@@ -110,6 +111,38 @@ call_of (verb ∷ label ∷ words) =
     else if bytes_eq verb (codes "invoke") then invoked_by label words
     else if bytes_eq verb (codes "close") then closed_by label words
     else None
+
+-- a block is shared: its number, its flags and its size
+unfoldable pub shared_by : List (List ℕ) → Option Call
+shared_by (number ∷ flags ∷ size ∷ []) = do
+  b ← number32_of number
+  f ← number32_of flags
+  n ← number32_of size
+  Some (calls.Share b f n)
+shared_by words = None
+
+-- a block is filled: its number, the place of the first byte, and the bytes, at least one
+unfoldable pub filled_by : List (List ℕ) → Option Call
+filled_by (number ∷ place ∷ digits ∷ []) = do
+  b ← number32_of number
+  a ← number32_of place
+  bytes ← hex_of digits
+  if length bytes == 0 then None else Some (calls.Fill b a bytes)
+filled_by words = None
+
+-- one number, that of a block
+unfoldable pub block_in : List (List ℕ) → Option ℕ
+block_in (number ∷ []) = number32_of number
+block_in words = None
+
+-- the call about shared memory that a verb and the words after it say, or that the verb is another call's
+unfoldable pub memory_call_of : List ℕ → List (List ℕ) → Option (Option Call)
+memory_call_of verb words =
+    if bytes_eq verb (codes "share") then (shared_by words >>= λ call. Some (Some call))
+    else if bytes_eq verb (codes "fill") then (filled_by words >>= λ call. Some (Some call))
+    else if bytes_eq verb (codes "show") then (block_in words >>= λ block. Some (Some (calls.Show block)))
+    else if bytes_eq verb (codes "unshare") then (block_in words >>= λ block. Some (Some (calls.Unshare block)))
+    else Some None
 
 -- a line of the script for which no byte is filled in
 abbrev pub plain_line : Line → ReadMeaning
@@ -136,6 +169,11 @@ cancel_line client app (number ∷ []) = do
   Some (plain_line (lines.Cancel app client op))
 cancel_line client app words = None
 
+-- the line of this call about shared memory; where there is none, these are the words of a call about a session
+abbrev pub memory_or_call_line : ℕ → ℕ → Option Call → List (List ℕ) → Option ReadMeaning
+memory_or_call_line client app (Some call) words = Some (plain_line (lines.Call app client false call))
+memory_or_call_line client app None words = call_line client app false words
+
 -- what a client does to the application of this index
 unfoldable pub app_line : ℕ → ℕ → List (List ℕ) → Option ReadMeaning
 app_line client app [] = None
@@ -143,7 +181,7 @@ app_line client app (verb ∷ words) =
     if bytes_eq verb (codes "turn") then turns_line client app words
     else if bytes_eq verb (codes "cancel") then cancel_line client app words
     else if bytes_eq verb (codes "post") then call_line client app true words
-    else call_line client app false (verb ∷ words)
+    else (memory_call_of verb words >>= λ said. memory_or_call_line client app said (verb ∷ words))
 
 -- a line about the board: its fuse, or its power
 unfoldable pub board_line : List (List ℕ) → Option ReadMeaning

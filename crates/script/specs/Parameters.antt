@@ -7,7 +7,7 @@ use Rattle.script.specs.declared.param.Parameters.{Parameters}
 use Rattle.std.specs.Str.{bytes_eq}
 use Rattle.hex.specs.Hex.{decode_of}
 use Rattle.app_api.specs.declared.param.Param.{Param}
-use Rattle.app_api.specs.declared.param.Param.TheVariants.{Nothing, ValueIn, ValueOut, ValueInOut, MemIn, MemOut, MemInOut}
+use Rattle.app_api.specs.declared.param.Param.TheVariants.{Nothing, ValueIn, ValueOut, ValueInOut, MemIn, MemOut, MemInOut, Whole, Part}
 use Rattle.script.specs.declared.words.LineError.{LineError}
 use Rattle.script.specs.declared.words.LineError.TheVariants.{Bad, NoMemory}
 use Rattle.tee_base.specs.declared.limits.TheConstants.{MAX_ASK_BYTES}
@@ -38,12 +38,13 @@ parameter_of_one kind =
     else if bytes_eq kind (codes "vo") then Some (plain_parameter ValueOut)
     else None
 
--- a parameter of two parts: memory, by its bytes or by its room
+-- a parameter of two parts: memory, by its bytes or by its room, or a whole block of shared memory
 unfoldable pub parameter_of_two : List ℕ → List ℕ → Option Parameter
 parameter_of_two kind a =
     if bytes_eq kind (codes "mi") then option_map (λ x. plain_parameter (MemIn x)) (hex_of a)
     else if bytes_eq kind (codes "mio") then option_map (λ x. plain_parameter (MemInOut x)) (hex_of a)
     else if bytes_eq kind (codes "mo") then option_map (λ x. plain_parameter (MemOut x)) (number32_of a)
+    else if bytes_eq kind (codes "sw") then option_map (λ x. plain_parameter (Whole x)) (number32_of a)
     else None
 
 -- two numbers
@@ -64,13 +65,27 @@ parameter_of_three kind a b =
     else if bytes_eq kind (codes "mf") then fill_parameter (number32_of a) (hex_of b)
     else None
 
+-- a part of a block: the number of the block, where the part begins, and how many bytes it has
+abbrev pub part_with : ℕ → Option ℕ → Option ℕ → Option ℕ → Option Parameter
+part_with way (Some block) (Some at) (Some size) = Some (plain_parameter (Part block way at size))
+part_with way block at size = None
+
+-- a parameter of four parts: a part of a block, as an input, as an output, or both
+unfoldable pub parameter_of_four : List ℕ → List ℕ → List ℕ → List ℕ → Option Parameter
+parameter_of_four kind a b c =
+    if bytes_eq kind (codes "si") then part_with 1 (number32_of a) (number32_of b) (number32_of c)
+    else if bytes_eq kind (codes "so") then part_with 2 (number32_of a) (number32_of b) (number32_of c)
+    else if bytes_eq kind (codes "sio") then part_with 3 (number32_of a) (number32_of b) (number32_of c)
+    else None
+
 -- a parameter by its parts
 abbrev pub parameter_of_parts : List (List ℕ) → Option Parameter
 parameter_of_parts [] = None
 parameter_of_parts (kind ∷ []) = parameter_of_one kind
 parameter_of_parts (kind ∷ a ∷ []) = parameter_of_two kind a
 parameter_of_parts (kind ∷ a ∷ b ∷ []) = parameter_of_three kind a b
-parameter_of_parts (kind ∷ a ∷ b ∷ c ∷ more) = None
+parameter_of_parts (kind ∷ a ∷ b ∷ c ∷ []) = parameter_of_four kind a b c
+parameter_of_parts (kind ∷ a ∷ b ∷ c ∷ d ∷ more) = None
 
 -- a parameter: its parts stand between colons
 abbrev pub parameter_of : List ℕ → Option Parameter

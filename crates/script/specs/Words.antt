@@ -1,11 +1,11 @@
 -- The words of a line, and what numbers and parameters are in them.
-use Rattle.std.specs.Prelude.{ℕ, ◌≡◌, ◌≢◌, ◌<◌, ◌≤◌, ◌^◌, ◌+◌, ◌⊎◌, List, [], ◌∷◌, ◌++◌, Ok, codes, replicate}
+use Rattle.std.specs.Prelude.{ℕ, ◌≡◌, ◌≢◌, ◌<◌, ◌≤◌, ◌^◌, ◌+◌, ◌==◌, ◌⊎◌, List, [], ◌∷◌, ◌++◌, Ok, codes, if◌then◌else◌, replicate}
 use Rattle.std.specs.List.{AllByRecursion}
 use Rattle.std.specs.Str.Parse.{IsNumeral, digits_value}
 use Rattle.hex.specs.Hex.{decode_of}
 use Rattle.tee_base.specs.declared.limits.TheConstants.{MAX_ASK_BYTES}
 use Rattle.app_api.specs.declared.param.Param.{Param}
-use Rattle.app_api.specs.declared.param.Param.TheVariants.{Nothing, ValueIn, ValueOut, ValueInOut, MemIn, MemOut, MemInOut}
+use Rattle.app_api.specs.declared.param.Param.TheVariants.{Nothing, ValueIn, ValueOut, ValueInOut, MemIn, MemOut, MemInOut, Whole, Part}
 use Rattle.tee_base.specs.Words.{Text}
 
 -- spaces alone, or nothing
@@ -46,6 +46,20 @@ IsFilled word bytes fill =
     (byte : ℕ) × (size digits : List ℕ) × IsNumber size fill × (decode_of digits ≡ Ok (byte ∷ []))
     × (word ≡ codes "mf:" ++ size ++ codes ":" ++ digits) × (bytes ≡ replicate fill byte) × (fill ≤ MAX_ASK_BYTES)
 
+-- the word of a whole block of shared memory: the number of the block
+abbrev pub IsWhole : List ℕ → ℕ → Type 0
+IsWhole word block = (x : List ℕ) × IsNumber32 x block × (word ≡ codes "sw:" ++ x)
+
+-- what the word of a part of a block begins with: its way is 1 for an input, 2 for an output, 3 for both
+abbrev pub part_front : ℕ → List ℕ
+part_front way = if way == 1 then codes "si:" else if way == 2 then codes "so:" else codes "sio:"
+
+-- the word of a part of a block: the number of the block, where the part begins, and how many bytes it has
+abbrev pub IsPart : List ℕ → ℕ → ℕ → ℕ → ℕ → Type 0
+IsPart word block way at size =
+    (1 ≤ way) × (way ≤ 3) × (x y z : List ℕ) × IsNumber32 x block × IsNumber32 y at × IsNumber32 z size
+    × (word ≡ part_front way ++ x ++ codes ":" ++ y ++ codes ":" ++ z)
+
 -- the word of a parameter, for which so many bytes are filled in
 unfoldable pub IsParam : List ℕ → Param → ℕ → Type 0
 IsParam word Nothing fill = (word ≡ codes "-") × (fill ≡ 0)
@@ -55,6 +69,8 @@ IsParam word (ValueInOut a b) fill = IsPair (codes "vio:") word a b × (fill ≡
 IsParam word (MemIn bytes) fill = (IsMemory (codes "mi:") word bytes × (fill ≡ 0)) ⊎ IsFilled word bytes fill
 IsParam word (MemOut size) fill = ((digits : List ℕ) × IsNumber32 digits size × (word ≡ codes "mo:" ++ digits)) × (fill ≡ 0)
 IsParam word (MemInOut bytes) fill = IsMemory (codes "mio:") word bytes × (fill ≡ 0)
+IsParam word (Whole block) fill = IsWhole word block × (fill ≡ 0)
+IsParam word (Part block way at size) fill = IsPart word block way at size × (fill ≡ 0)
 
 -- the words of parameters in order; where the words end, the others are left out, and are none
 unfoldable pub AreParams : List (List ℕ) → List Param → ℕ → Type 0

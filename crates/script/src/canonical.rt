@@ -26,6 +26,7 @@ impl Text {
     ghost use Rattle.app_api.specs.Params.{params_of};
     ghost use Rattle.script.specs.Canonical.{behind_spaces, call_words, client_text, line_text, login_words, name_at, param_word, params_words};
     ghost use Rattle.script.specs.Grammar.{post_words};
+    ghost use Rattle.script.specs.Words.{part_front};
 
     /// Two numbers behind a kind's word.
     fn pair(&mut self, kind: &[u8], a: u32, b: u32) -> Result<(), NoMemory>
@@ -36,6 +37,23 @@ impl Text {
         self.number(u64::from(a))?;
         self.push(b":")?;
         self.number(u64::from(b))
+    }
+
+    /// The word of a part of a block.
+    fn part(&mut self, block: u32, way: u8, at: u32, size: u32) -> Result<(), NoMemory>
+        ensures { OnOk result (self.new ≡ self.old ++ (part_front way
+            ++ decimal block ++ codes ":" ++ decimal at ++ codes ":" ++ decimal size)) }
+    {
+        match way {
+            1 => self.push(b"si:")?,
+            2 => self.push(b"so:")?,
+            _ => self.push(b"sio:")?,
+        }
+        self.number(u64::from(block))?;
+        self.push(b":")?;
+        self.number(u64::from(at))?;
+        self.push(b":")?;
+        self.number(u64::from(size))
     }
 
     /// The word of a parameter.
@@ -59,6 +77,16 @@ impl Text {
                 self.push(b"mio:")?;
                 self.hex(bytes.as_slice())
             }
+            Param::Whole(block) => {
+                self.push(b"sw:")?;
+                self.number(u64::from(*block))
+            }
+            Param::Part {
+                block,
+                way,
+                at,
+                size,
+            } => self.part(*block, *way, *at, *size),
         }
     }
 
@@ -124,6 +152,16 @@ impl Text {
         }
     }
 
+    /// A verb and the number that stands after it, each behind a space.
+    fn verb(&mut self, verb: &[u8], number: u32) -> Result<(), NoMemory>
+        ensures { OnOk result (self.new
+            ≡ self.old ++ behind_spaces (verb.now ∷ decimal number ∷ [])) }
+    {
+        self.push(b" ")?;
+        self.push(verb)?;
+        self.spaced_number(u64::from(number))
+    }
+
     /// The words of a call, each behind a space.
     fn call(&mut self, call: &Call) -> Result<(), NoMemory>
         ensures { OnOk result (self.new ≡ self.old ++ behind_spaces (call_words call.now)) }
@@ -134,8 +172,7 @@ impl Text {
                 login,
                 params,
             } => {
-                self.push(b" open")?;
-                self.spaced_number(u64::from(*label))?;
+                self.verb(b"open", *label)?;
                 self.login(login)?;
                 self.params(params)
             }
@@ -144,15 +181,24 @@ impl Text {
                 command,
                 params,
             } => {
-                self.push(b" invoke")?;
-                self.spaced_number(u64::from(*label))?;
+                self.verb(b"invoke", *label)?;
                 self.spaced_number(u64::from(*command))?;
                 self.params(params)
             }
-            Call::Close { label } => {
-                self.push(b" close")?;
-                self.spaced_number(u64::from(*label))
+            Call::Close { label } => self.verb(b"close", *label),
+            Call::Share { block, flags, size } => {
+                self.verb(b"share", *block)?;
+                self.spaced_number(u64::from(*flags))?;
+                self.spaced_number(u64::from(*size))
             }
+            Call::Fill { block, at, bytes } => {
+                self.verb(b"fill", *block)?;
+                self.spaced_number(u64::from(*at))?;
+                self.push(b" ")?;
+                self.hex(bytes.as_slice())
+            }
+            Call::Show { block } => self.verb(b"show", *block),
+            Call::Unshare { block } => self.verb(b"unshare", *block),
         }
     }
 

@@ -4,11 +4,13 @@ ghost use Rattle.std.specs.Prelude.{◌≡◌, ◌≤◌, ◌*◌, ◌<◌, List
 ghost use Rattle.app_api.specs.declared.host.Host.{Host};
 ghost use Rattle.tee_base.specs.declared.limits.TheConstants.{MAX_ASK_BYTES};
 ghost use Rattle.script.specs.Parameters.{Gives};
-ghost use Rattle.script.specs.Lines.{app_line, board_line, call_line, call_of, cancel_line, client_line, closed_by, host_at, id_of, index_from, invoked_by, is_silent, login_in, meaning_of, meaning_of_words, opened_as, opened_by, plain_line, turns_line};
+ghost use Rattle.script.specs.Lines.{app_line, block_in, board_line, call_line, call_of, cancel_line, client_line, closed_by, filled_by};
+ghost use Rattle.script.specs.Lines.{host_at, id_of, index_from, invoked_by, is_silent, login_in, meaning_of, meaning_of_words, memory_call_of};
+ghost use Rattle.script.specs.Lines.{opened_as, opened_by, plain_line, shared_by, turns_line};
 
 use crate::line::{Line, Meaning, ReadCall, ReadMeaning};
 use crate::number::{number, number_within, number32};
-use crate::param::params_of;
+use crate::param::{hex_bytes, params_of};
 use crate::words::{LineError, is_ascii, words_of};
 use app_api::{Call, Host, Login};
 use std::alloc::Global;
@@ -158,7 +160,7 @@ fn close_call(label: &[u8], words: &[&[u8]]) -> Result<ReadCall, LineError>
     })
 }
 
-/// A call by its words: its verb, the session's label, and what follows.
+/// A call about a session by its words: its verb, the session's label, and what follows.
 #[tactic(auto, unfolding(crate::specs::Lines::call_of))]
 fn call(alloc: Global, words: &[&[u8]]) -> Result<ReadCall, LineError>
     ensures value { Gives result (call_of (map (λ word. word.now) words.now)) }
@@ -177,6 +179,72 @@ fn call(alloc: Global, words: &[&[u8]]) -> Result<ReadCall, LineError>
         return close_call(label, others);
     }
     Err(LineError::Bad)
+}
+
+/// A block is shared: its number, its flags and its size.
+#[tactic(auto, unfolding(crate::specs::Lines::shared_by))]
+fn share_call(words: &[&[u8]]) -> Result<Call, LineError>
+    ensures { Gives result (shared_by (map (λ word. word.now) words.now)) }
+{
+    let [block, flags, size] = words else {
+        return Err(LineError::Bad);
+    };
+    Ok(Call::Share {
+        block: number32(block)?,
+        flags: number32(flags)?,
+        size: number32(size)?,
+    })
+}
+
+/// A block is filled: its number, the place of the first byte, and the bytes, at least one.
+#[tactic(auto, unfolding(crate::specs::Lines::filled_by))]
+fn fill_call(alloc: Global, words: &[&[u8]]) -> Result<Call, LineError>
+    ensures { Gives result (filled_by (map (λ word. word.now) words.now)) }
+{
+    let [block, at, digits] = words else {
+        return Err(LineError::Bad);
+    };
+    let block = number32(block)?;
+    let at = number32(at)?;
+    let bytes = hex_bytes(alloc, digits)?;
+    if bytes.len() == 0 {
+        drop(bytes);
+        return Err(LineError::Bad);
+    }
+    Ok(Call::Fill { block, at, bytes })
+}
+
+/// One number, that of a block.
+#[tactic(auto, unfolding(crate::specs::Lines::block_in))]
+fn block_in(words: &[&[u8]]) -> Result<u32, LineError>
+    ensures { Gives result (block_in (map (λ word. word.now) words.now)) }
+{
+    let [block] = words else {
+        return Err(LineError::Bad);
+    };
+    number32(block)
+}
+
+/// The call about shared memory that a verb and the words after it say, or that the verb is another call's.
+#[tactic(auto, unfolding(crate::specs::Lines::memory_call_of))]
+fn memory_call(alloc: Global, verb: &[u8], words: &[&[u8]]) -> Result<Option<Call>, LineError>
+    ensures { Gives result (memory_call_of verb.now (map (λ word. word.now) words.now)) }
+{
+    if verb == b"share".as_slice() {
+        return Ok(Some(share_call(words)?));
+    }
+    if verb == b"fill".as_slice() {
+        return Ok(Some(fill_call(alloc, words)?));
+    }
+    if verb == b"show".as_slice() {
+        let block = block_in(words)?;
+        return Ok(Some(Call::Show { block }));
+    }
+    if verb == b"unshare".as_slice() {
+        let block = block_in(words)?;
+        return Ok(Some(Call::Unshare { block }));
+    }
+    Ok(None)
 }
 
 /// A line for which no byte was filled in.
@@ -270,7 +338,15 @@ fn line_of_app(
     if *verb == b"post".as_slice() {
         return line_of_call(alloc, client, app, true, others);
     }
-    line_of_call(alloc, client, app, false, words)
+    match memory_call(alloc, verb, others)? {
+        Some(call) => Ok(plain(Line::Call {
+            app,
+            client,
+            post: false,
+            call,
+        })),
+        None => line_of_call(alloc, client, app, false, words),
+    }
 }
 
 /// What befalls the board.

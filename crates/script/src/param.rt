@@ -2,7 +2,9 @@
 
 ghost use Rattle.std.specs.Prelude.{◌≡◌, ◌^◌, ◌<◌, ◌≤◌, ◌*◌, Some, List, ℕ, map, replicate, IfOk};
 ghost use Rattle.std.specs.List.{slice_split};
-ghost use Rattle.script.specs.Parameters.{parameter_of, parameter_of_parts, parameter_of_one, parameter_of_two, parameter_of_three, hex_of, fill_parameter, parameter_at, parameters_of, plain_parameter, IsSmall, Gives};
+ghost use Rattle.script.specs.Parameters.{Gives, IsSmall, fill_parameter, hex_of, parameter_at, parameter_of, parameter_of_four};
+ghost use Rattle.script.specs.Parameters.{parameter_of_one, parameter_of_parts, parameter_of_three, parameter_of_two, parameters_of};
+ghost use Rattle.script.specs.Parameters.{part_with, plain_parameter};
 ghost use Rattle.script.specs.Numbers.{number32_of};
 ghost use Rattle.tee_base.specs.declared.limits.TheConstants.{MAX_ASK_BYTES};
 
@@ -27,7 +29,7 @@ pub struct Parameters {
 }
 
 /// Bytes in hexadecimal digits of either case, two for each.
-fn hex_bytes(alloc: Global, digits: &[u8]) -> Result<Bytes, LineError>
+pub fn hex_bytes(alloc: Global, digits: &[u8]) -> Result<Bytes, LineError>
     ensures { Gives result (hex_of digits.now) }
 {
     match hex::decode(alloc, digits) {
@@ -57,7 +59,7 @@ fn param_of_one(kind: &[u8]) -> Result<Parameter, LineError>
     }
 }
 
-/// A parameter of two parts: memory that is read, read and written, or written.
+/// A parameter of two parts: memory that is read, read and written, or written, or a whole block of shared memory.
 #[tactic(auto, unfolding(crate::specs::Parameters::parameter_of_two))]
 fn param_of_two(alloc: Global, kind: &[u8], size: &[u8]) -> Result<Parameter, LineError>
     ensures value { Gives result (parameter_of_two kind.now size.now) }
@@ -67,6 +69,7 @@ fn param_of_two(alloc: Global, kind: &[u8], size: &[u8]) -> Result<Parameter, Li
         b"mi" => Ok(plain(Param::MemIn(hex_bytes(alloc, size)?))),
         b"mio" => Ok(plain(Param::MemInOut(hex_bytes(alloc, size)?))),
         b"mo" => Ok(plain(Param::MemOut(number32(size)?))),
+        b"sw" => Ok(plain(Param::Whole(number32(size)?))),
         _ => Err(LineError::Bad),
     }
 }
@@ -102,6 +105,34 @@ fn fill(alloc: Global, size: u32, byte: Bytes) -> Result<Parameter, LineError>
     }
 }
 
+/// A part of a block: the number of the block, where the part begins, and how many bytes it has.
+fn part(way: u8, block: &[u8], at: &[u8], size: &[u8]) -> Result<Parameter, LineError>
+    ensures value { Gives result
+        (part_with way (number32_of block.now) (number32_of at.now) (number32_of size.now)) }
+    ensures small { IfOk result IsSmall }
+{
+    Ok(plain(Param::Part {
+        block: number32(block)?,
+        way,
+        at: number32(at)?,
+        size: number32(size)?,
+    }))
+}
+
+/// A parameter of four parts: a part of a block, as an input, as an output, or both.
+#[tactic(auto, unfolding(crate::specs::Parameters::parameter_of_four))]
+fn param_of_four(kind: &[u8], a: &[u8], b: &[u8], c: &[u8]) -> Result<Parameter, LineError>
+    ensures value { Gives result (parameter_of_four kind.now a.now b.now c.now) }
+    ensures small { IfOk result IsSmall }
+{
+    match kind {
+        b"si" => part(1, a, b, c),
+        b"so" => part(2, a, b, c),
+        b"sio" => part(3, a, b, c),
+        _ => Err(LineError::Bad),
+    }
+}
+
 /// A parameter by its parts.
 fn param_of_parts(alloc: Global, parts: &[&[u8]]) -> Result<Parameter, LineError>
     ensures small { IfOk result IsSmall }
@@ -111,6 +142,7 @@ fn param_of_parts(alloc: Global, parts: &[&[u8]]) -> Result<Parameter, LineError
         [kind] => param_of_one(kind),
         [kind, a] => param_of_two(alloc, kind, a),
         [kind, a, b] => param_of_three(alloc, kind, a, b),
+        [kind, a, b, c] => param_of_four(kind, a, b, c),
         _ => Err(LineError::Bad),
     }
 }

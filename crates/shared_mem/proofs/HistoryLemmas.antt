@@ -3,7 +3,7 @@ use Rattle.std.proofs.Common.{ℕ, ◌≡◌, ◌==◌, ◌&&◌, Bool, true, fa
 use Rattle.std.specs.Option.{unwrap_or}
 use Rattle.std.proofs.lemmas.Bool.{cases_Bool, cond-true, cond-false, and_parts, eqb-true}
 use Rattle.shared_mem.specs.declared.block.Block.{Block}
-use Rattle.shared_mem.specs.declared.reference.Direction.{Direction}
+use Rattle.app_api.specs.declared.reference.Direction.{Direction}
 use Rattle.shared_mem.specs.Blocks.{block_at, change_first, is_at, new_block, block_after_write}
 use Rattle.shared_mem.specs.History.{Happening, Shared, Written, GivenUp, block_by, blocks_after, is_same}
 

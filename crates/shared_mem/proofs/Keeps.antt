@@ -7,9 +7,9 @@ use Rattle.std.proofs.lemmas.List.{length-append, length-drop, length-replicate,
 use Rattle.std.proofs.lemmas.List.Sums.{sum_by-cons, sum_by_push}
 use Rattle.std.proofs.lemmas.List.Filters.{sum_by-filter_both}
 use Rattle.shared_mem.specs.declared.block.Block.{Block}
-use Rattle.shared_mem.specs.declared.reference.Direction.{Direction}
-use Rattle.shared_mem.specs.declared.reference.Reference.{Reference}
-use Rattle.shared_mem.specs.declared.reference.Reference.TheVariants.{Whole, Part}
+use Rattle.app_api.specs.declared.reference.Direction.{Direction}
+use Rattle.app_api.specs.declared.reference.Reference.{Reference}
+use Rattle.app_api.specs.declared.reference.Reference.TheVariants.{Whole, Part}
 use Rattle.shared_mem.specs.Blocks.{IsBlocks, is_of, is_at, is_sound, block_at, change_first, fits, length_in, new_block, block_after_write, bytes_over, with_bytes}
 
 -- ---- room
@@ -146,7 +146,7 @@ found_small (Some x) now q blocks at sound =
 
 pub length_fits : (b : Block) (r : Reference) → IsTrue (fits b r) → length b.bytes ≤ 524288 → length_in b r ≤ 524288
 length_fits b (Whole number) fit small = small
-length_fits b (Part number direction at size) fit small =
+length_fits b (Part number way at size) fit small =
     omega (arith, small, leb-true (at + size) (length b.bytes) (and_parts (nat_le (at + size) (length b.bytes)) _ fit).0)
 
 -- ---- blocks that stay

@@ -8,15 +8,17 @@ use Rattle.tee_base.specs.declared.codes.Code.{Code}
 use Rattle.tee_base.specs.declared.codes.TheConstants.Code.{BAD_PARAMETERS, BAD_STATE, BUSY, EXCESS_DATA, ITEM_NOT_FOUND}
 use Rattle.tee_base.specs.declared.limits.TheConstants.{MAX_ASK_BYTES, MAX_CLIENTS}
 use Rattle.app_api.specs.declared.param.Param.{Param}
-use Rattle.app_api.specs.declared.param.Param.TheVariants.{MemIn, MemOut, MemInOut}
+use Rattle.app_api.specs.declared.param.Param.TheVariants as params
+use Rattle.app_api.specs.declared.param.Param.TheVariants.{Nothing, MemIn, MemOut, MemInOut}
+use Rattle.app_api.specs.declared.reference.Direction.{Direction}
+use Rattle.app_api.specs.declared.reference.Direction.TheVariants.{Input, Output, Both}
+use Rattle.app_api.specs.declared.reference.Reference.{Reference}
+use Rattle.app_api.specs.declared.reference.Reference.TheVariants.{Whole, Part}
+use Rattle.app_api.specs.References.{allows_way, direction_of, number_of, start_of}
 use Rattle.shared_mem.specs.declared.answer.BlockAnswer.{BlockAnswer}
 use Rattle.shared_mem.specs.declared.answer.BlockAnswer.TheVariants.{Refused}
 use Rattle.shared_mem.specs.declared.block.Block.{Block}
 use Rattle.shared_mem.specs.declared.blocks.TheConstants.{MAX_BLOCKS}
-use Rattle.shared_mem.specs.declared.reference.Direction.{Direction}
-use Rattle.shared_mem.specs.declared.reference.Direction.TheVariants.{Input, Output, Both}
-use Rattle.shared_mem.specs.declared.reference.Reference.{Reference}
-use Rattle.shared_mem.specs.declared.reference.Reference.TheVariants.{Whole, Part}
 
 -- ---- blocks by client and number
 
@@ -64,14 +66,6 @@ block_or_refusal None = Err ITEM_NOT_FOUND
 block_or_refusal (Some block) = Ok block
 
 -- ---- Share
-
--- the direction of memory flags, of which 1 is input and 2 is output
-abbrev pub direction_of : ℕ → Option Direction
-direction_of flags =
-    if flags == 1 then Some Input
-    else if flags == 2 then Some Output
-    else if flags == 3 then Some Both
-    else None
 
 -- a new block is all zeros
 abbrev pub new_block : ℕ → ℕ → Direction → ℕ → Block
@@ -151,40 +145,20 @@ unshare_of blocks client number named =
 
 -- ---- references
 
--- the number of the block that a reference names
-abbrev pub number_of : Reference → ℕ
-number_of (Whole number) = number
-number_of (Part number direction at size) = number
-
--- where a reference begins in its block
-abbrev pub start_of : Reference → ℕ
-start_of (Whole number) = 0
-start_of (Part number direction at size) = at
-
 -- how many bytes a reference to the block has
 abbrev pub length_in : Block → Reference → ℕ
 length_in block (Whole number) = length block.bytes
-length_in block (Part number direction at size) = size
+length_in block (Part number way at size) = size
 
--- the direction of a reference to the block: that of a whole one is the block's own
-abbrev pub direction_in : Block → Reference → Direction
-direction_in block (Whole number) = block.direction
-direction_in block (Part number direction at size) = direction
-
--- flags of one direction allow a reference in the other
-abbrev pub allows : Direction → Direction → Bool
-allows Both direction = true
-allows Input Input = true
-allows Input Output = false
-allows Input Both = false
-allows Output Input = false
-allows Output Output = true
-allows Output Both = false
+-- the direction of a reference to the block: that of a whole one is the block's own. A way may be none
+abbrev pub direction_in : Block → Reference → Option Direction
+direction_in block (Whole number) = Some block.direction
+direction_in block (Part number way at size) = direction_of way
 
 -- the reference is within the block, and goes in a direction that the block allows
 abbrev pub fits : Block → Reference → Bool
 fits block (Whole number) = true
-fits block (Part number direction at size) = nat_le (at + size) (length block.bytes) && allows block.direction direction
+fits block (Part number way at size) = nat_le (at + size) (length block.bytes) && allows_way block.direction (direction_of way)
 
 -- the block that was sought, where the reference fits it
 abbrev pub check_in : Reference → Option Block → Result Block Code
@@ -200,37 +174,63 @@ abbrev pub bytes_in : Block → Reference → List ℕ
 bytes_in block reference = take (length_in block reference) (drop (start_of reference) block.bytes)
 
 -- a memory parameter of this direction
-abbrev pub memory_of : Direction → List ℕ → Param
-memory_of Input bytes = MemIn bytes
-memory_of Output bytes = MemOut (length bytes)
-memory_of Both bytes = MemInOut bytes
+abbrev pub memory_of : Option Direction → List ℕ → Param
+memory_of None bytes = Nothing
+memory_of (Some Input) bytes = MemIn bytes
+memory_of (Some Output) bytes = MemOut (length bytes)
+memory_of (Some Both) bytes = MemInOut bytes
 
 -- the parameter that an application is given for a reference to the block
 abbrev pub param_of : Block → Reference → Param
 param_of block reference = memory_of (direction_in block reference) (bytes_in block reference)
 
--- what a reference that was checked becomes
-abbrev pub resolve_in : Reference → Result Block Code → Result Param Code
-resolve_in reference (Ok block) = Ok (param_of block reference)
-resolve_in reference (Err code) = Err code
+-- what a reference becomes; none where it was refused, which no reference of an unanswered operation is
+abbrev pub given_in : Reference → Result Block Code → Param
+given_in reference (Ok block) = param_of block reference
+given_in reference (Err code) = Nothing
 
--- the parameter that an application is given for a reference
-abbrev pub resolve_of : List Block → ℕ → Reference → Result Param Code
-resolve_of blocks client reference = resolve_in reference (check_of blocks client reference)
+-- the parameter that an application is given for a reference, with the bytes as they are
+abbrev pub given_for : List Block → ℕ → Reference → Param
+given_for blocks client reference = given_in reference (check_of blocks client reference)
+
+-- the parameter that an application is given for this one: memory for a reference, and another as it is
+abbrev pub given_param : List Block → ℕ → Param → Param
+given_param blocks client params.Nothing = params.Nothing
+given_param blocks client (params.ValueIn a b) = params.ValueIn a b
+given_param blocks client params.ValueOut = params.ValueOut
+given_param blocks client (params.ValueInOut a b) = params.ValueInOut a b
+given_param blocks client (params.MemIn bytes) = params.MemIn bytes
+given_param blocks client (params.MemOut room) = params.MemOut room
+given_param blocks client (params.MemInOut bytes) = params.MemInOut bytes
+given_param blocks client (params.Whole block) = given_for blocks client (Whole block)
+given_param blocks client (params.Part block way at size) = given_for blocks client (Part block way at size)
+
+-- what is answered of a parameter that is this reference; one that is none is right
+abbrev pub check_answer : List Block → ℕ → Option Reference → Result ⊤ BlockAnswer
+check_answer blocks client None = Ok tt
+check_answer blocks client (Some reference) = answer_of (check_of blocks client reference)
 
 -- ---- deliveries
 
 -- bytes may go out in this direction
-abbrev pub has_output : Direction → Bool
-has_output Input = false
-has_output Output = true
-has_output Both = true
+abbrev pub has_output : Option Direction → Bool
+has_output None = false
+has_output (Some Input) = false
+has_output (Some Output) = true
+has_output (Some Both) = true
 
 -- a reference that was checked takes so many bytes as output
-abbrev pub TakesBytes : Result Block Code → Reference → List ℕ → Type 0
-TakesBytes (Ok block) reference bytes = IsTrue (has_output (direction_in block reference)) × (length bytes ≤ length_in block reference)
-TakesBytes (Err code) reference bytes = ⊥
+abbrev pub takes_bytes : Result Block Code → Reference → List ℕ → Bool
+takes_bytes (Ok block) reference bytes = has_output (direction_in block reference) && nat_le (length bytes) (length_in block reference)
+takes_bytes (Err code) reference bytes = false
 
--- what is delivered through a reference stands in its block, from where the reference begins
+-- what is delivered through a reference that takes it stands in its block, from where the reference begins
 abbrev pub put_of : List Block → ℕ → Reference → List ℕ → List Block
-put_of blocks client reference bytes = with_bytes blocks client (number_of reference) (start_of reference) bytes
+put_of blocks client reference bytes =
+    if takes_bytes (check_of blocks client reference) reference bytes
+    then with_bytes blocks client (number_of reference) (start_of reference) bytes else blocks
+
+-- the same of a parameter that is this reference; through one that is none nothing is delivered
+abbrev pub put_in : List Block → ℕ → Option Reference → List ℕ → List Block
+put_in blocks client None bytes = blocks
+put_in blocks client (Some reference) bytes = put_of blocks client reference bytes

@@ -2,7 +2,7 @@
 use Rattle.std.specs.Prelude.{ℕ, ◌==◌, ◌&&◌, Bool, if◌then◌else◌, List, [], ◌∷◌, Option, None, Some, option_map, unwrap_or}
 use Rattle.shared_mem.specs.Blocks.{new_block, with_block, with_bytes, without_block, block_after_write}
 use Rattle.shared_mem.specs.declared.block.Block.{Block}
-use Rattle.shared_mem.specs.declared.reference.Direction.{Direction}
+use Rattle.app_api.specs.declared.reference.Direction.{Direction}
 
 -- what changes blocks: a client shares one, bytes are filled into one or delivered to it, a client gives one up
 pub data Happening : Type 0 where

@@ -1,7 +1,6 @@
 //! A block as it is kept.
 
-use crate::reference::{Direction, Reference};
-use app_api::Param;
+use app_api::{Direction, Param, Reference};
 use std::alloc::Global;
 use std::default::MadeWith;
 use std::mem;
@@ -29,9 +28,9 @@ impl MadeWith<Global> for Block {
 }
 
 impl Block {
-    ghost use Rattle.std.specs.Prelude.{◌≡◌, ◌+◌, ◌≤◌, ◌<◌, ◌^◌, IfOk, IsTrue, length, nat_le};
+    ghost use Rattle.std.specs.Prelude.{◌≡◌, ◌+◌, ◌≤◌, ◌<◌, ◌^◌, ◌&&◌, IfOk, IsTrue, length, nat_le};
     ghost use Rattle.tee_base.specs.declared.limits.TheConstants.{MAX_ASK_BYTES};
-    ghost use Rattle.shared_mem.specs.Blocks.{direction_in, is_at, fits, length_in, new_block, param_of, block_after_write};
+    ghost use Rattle.shared_mem.specs.Blocks.{direction_in, is_at, fits, has_output, length_in, new_block, param_of, block_after_write};
 
     /// A block of zeros.
     pub fn zeros(
@@ -78,13 +77,13 @@ impl Block {
         self.bytes = Bytes::from_vec(content);
     }
 
-    /// The direction of a reference to it. That of a whole reference is the block's own.
-    fn direction_in(&self, reference: &Reference) -> Direction
+    /// The direction of a reference to it. That of a whole reference is the block's own; the way of a part may be none.
+    fn direction_in(&self, reference: &Reference) -> Option<Direction>
         ensures { result ≡ direction_in self.now reference.now }
     {
         match reference {
-            Reference::Whole { .. } => self.direction,
-            Reference::Part { direction, .. } => *direction,
+            Reference::Whole { .. } => Some(self.direction),
+            Reference::Part { way, .. } => Direction::of_flags(u32::from(*way)),
         }
     }
 
@@ -104,13 +103,23 @@ impl Block {
     {
         match reference {
             Reference::Whole { .. } => true,
-            Reference::Part {
-                direction,
-                at,
-                size,
-                ..
-            } => self.holds(*at, *size as usize) && self.direction.allows(*direction),
+            Reference::Part { way, at, size, .. } => {
+                self.holds(*at, *size as usize) && self.direction.allows_way(*way)
+            }
         }
+    }
+
+    /// Whether a reference fits, has an output, and has so many bytes.
+    pub fn takes(&self, reference: &Reference, count: usize) -> bool
+        ensures { result ≡ (fits self.now reference.now
+            && (has_output (direction_in self.now reference.now)
+            && nat_le count (length_in self.now reference.now))) }
+    {
+        let out = match self.direction_in(reference) {
+            None | Some(Direction::Input) => false,
+            Some(Direction::Output | Direction::Both) => true,
+        };
+        self.fits(reference) && out && count <= self.length_in(reference)
     }
 
     /// The parameter that an application is given for a reference. Bytes are copied only where it reads them.
@@ -123,9 +132,10 @@ impl Block {
         let size = self.length_in(reference);
         let bytes = &self.bytes.as_slice()[start..start + size];
         Ok(match self.direction_in(reference) {
-            Direction::Input => Param::MemIn(Bytes::from_slice(alloc, bytes)?),
-            Direction::Output => Param::MemOut(size as u32),
-            Direction::Both => Param::MemInOut(Bytes::from_slice(alloc, bytes)?),
+            None => Param::Nothing,
+            Some(Direction::Input) => Param::MemIn(Bytes::from_slice(alloc, bytes)?),
+            Some(Direction::Output) => Param::MemOut(size as u32),
+            Some(Direction::Both) => Param::MemInOut(Bytes::from_slice(alloc, bytes)?),
         })
     }
 }

@@ -3,8 +3,7 @@
 use crate::answer::BlockAnswer;
 use crate::block::Block;
 use crate::lists;
-use crate::reference::{Direction, Reference};
-use app_api::Param;
+use app_api::{Direction, Param, Reference};
 use arrayvec::ArrayVec;
 use std::alloc::Global;
 use std::marker::Model;
@@ -41,7 +40,8 @@ impl Blocks {
     ghost use Rattle.tee_base.specs.declared.codes.Code.{Code};
     ghost use Rattle.tee_base.specs.declared.limits.TheConstants.{MAX_CLIENTS};
     ghost use Rattle.shared_mem.specs.declared.answer.BlockAnswer.TheVariants.{Refused};
-    ghost use Rattle.shared_mem.specs.Blocks.{IsBlocks, TakesBytes, answer_of, check_of, fill_of, left_by, put_of, resolve_of, share_of, show_of, unshare_of};
+    ghost use Rattle.app_api.specs.Params.{reference_of};
+    ghost use Rattle.shared_mem.specs.Blocks.{IsBlocks, answer_of, check_answer, check_of, fill_of, given_for, given_param, left_by, put_in, put_of, share_of, show_of, unshare_of};
 
     /// No blocks. It takes no memory.
     pub fn new(alloc: Global) -> Blocks
@@ -166,41 +166,84 @@ impl Blocks {
         Ok(())
     }
 
-    /// Whether a reference of this client may be used. It takes no memory.
+    /// Whether a parameter of this client may be used, where it is a reference. It takes no memory.
     ///
     /// # Errors
     ///
     /// The first that applies. ITEM_NOT_FOUND: the client has no such block. BAD_PARAMETERS: a part passes the block's end,
-    /// or its direction isn't among the block's flags.
-    pub fn check(&self, client: u8, reference: &Reference) -> Result<(), BlockAnswer>
-        ensures { result ≡ answer_of (check_of self.now client reference.now) }
+    /// or its way isn't among the block's flags.
+    pub fn check(&self, client: u8, param: &Param) -> Result<(), BlockAnswer>
+        ensures { result ≡ check_answer self.now client (reference_of param.now) }
     {
+        let Some(reference) = param.reference() else {
+            return Ok(());
+        };
         let Some(found) = self.find(client, reference.block()) else {
             return Err(BlockAnswer::Refused(Code::ITEM_NOT_FOUND));
         };
-        if !found.fits(reference) {
+        if !found.fits(&reference) {
             return Err(BlockAnswer::Refused(Code::BAD_PARAMETERS));
         }
         Ok(())
     }
 
-    /// The parameter that an application is given for a reference, with the bytes as they now are.
-    pub fn resolve(&self, client: u8, reference: &Reference) -> Result<Param, NoMemory>
-        requires { IsOk (answer_of (check_of self.now client reference.now)) }
-        ensures { IfOk result (λ param. resolve_of self.now client reference.now ≡ Ok param) }
+    /// The parameter that an application is given for a reference, with the bytes as they now are; none where the reference
+    /// may not be used.
+    fn resolve_reference(&self, client: u8, reference: &Reference) -> Result<Param, NoMemory>
+        ensures { IfOk result (λ param. param ≡ given_for self.now client reference.now) }
     {
         match self.find(client, reference.block()) {
-            Some(found) => found.resolve(self.alloc, reference),
-            None => Ok(Param::Nothing),
+            Some(found) if found.fits(reference) => found.resolve(self.alloc, reference),
+            _ => Ok(Param::Nothing),
         }
     }
 
-    /// Writes what an application delivered through a reference into its block, in place, from where the reference begins.
-    /// It takes no memory.
-    pub fn put(&mut self, client: u8, reference: &Reference, bytes: &[u8])
-        requires { TakesBytes (check_of self.old client reference.now) reference.now bytes.now }
+    /// The parameter that an application is given for this one: memory for a reference, with the bytes as they now are, and none
+    /// where the reference may not be used. Another is given as it is.
+    pub fn resolve(&self, client: u8, param: &Param) -> Result<Param, NoMemory>
+        ensures { IfOk result (λ given. given ≡ given_param self.now client param.now) }
+    {
+        match param {
+            Param::Whole(block) => self.resolve_reference(
+                client,
+                &Reference::Whole { block: *block },
+            ),
+            Param::Part {
+                block,
+                way,
+                at,
+                size,
+            } => self.resolve_reference(
+                client,
+                &Reference::Part {
+                    block: *block,
+                    way: *way,
+                    at: *at,
+                    size: *size,
+                },
+            ),
+            other => other.copy(self.alloc),
+        }
+    }
+
+    /// Writes what an application delivered through a parameter into the block to which it refers, in place, from where the
+    /// reference begins. Nothing is written where it is no reference, may not be used, has no output, or has fewer bytes. It
+    /// takes no memory.
+    pub fn put(&mut self, client: u8, param: &Param, bytes: &[u8])
+        ensures { self.new ≡ put_in self.old client (reference_of param.now) bytes.now }
+    {
+        if let Some(reference) = param.reference() {
+            self.put_reference(client, &reference, bytes);
+        }
+    }
+
+    /// The same of a reference.
+    pub fn put_reference(&mut self, client: u8, reference: &Reference, bytes: &[u8])
         ensures { self.new ≡ put_of self.old client reference.now bytes.now }
     {
+        if !self.takes(client, reference, bytes.len()) {
+            return;
+        }
         lists::write(
             self.items.as_mut_slice(),
             self.alloc,
@@ -211,9 +254,20 @@ impl Blocks {
         );
     }
 
-    ghost use Rattle.std.specs.Prelude.{◌≤◌, IfSome, length, option_map};
+    /// Whether a reference takes so many bytes as output.
+    fn takes(&self, client: u8, reference: &Reference, count: usize) -> bool
+        ensures { (bytes : List ℕ) → length bytes ≡ count
+            → result ≡ takes_bytes (check_of self.now client reference.now) reference.now bytes }
+    {
+        match self.find(client, reference.block()) {
+            Some(found) => found.takes(reference, count),
+            None => false,
+        }
+    }
+
+    ghost use Rattle.std.specs.Prelude.{ℕ, List, ◌≤◌, IfSome, length, option_map};
     ghost use Rattle.tee_base.specs.declared.limits.TheConstants.{MAX_ASK_BYTES};
-    ghost use Rattle.shared_mem.specs.Blocks.{block_at};
+    ghost use Rattle.shared_mem.specs.Blocks.{block_at, takes_bytes};
 
     /// The client's block of this number.
     fn find(&self, client: u8, block: u32) -> Option<&Block>

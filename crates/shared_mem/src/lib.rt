@@ -6,9 +6,9 @@ mod block;
 mod blocks;
 mod laws;
 mod lists;
-mod reference;
 
 pub use answer::BlockAnswer;
+pub use app_api::{Direction, Reference};
+pub use block::Block;
 pub use blocks::{Blocks, MAX_BLOCKS};
-pub use laws::{block_laws, delivery_laws};
-pub use reference::{Direction, Reference};
+pub use laws::{block_laws, delivery_laws, references_are_memory};

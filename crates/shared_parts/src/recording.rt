@@ -1,7 +1,7 @@
 //! Events of an application that leave the storage alone, each of them with its entry in the log.
 
 ghost use Rattle.std.specs.Prelude.{◌≡◌, ◌<◌, ◌≤◌, ◌-◌, ◌^◌, ◌++◌, ◌⊎◌, [], ◌∷◌, ℕ, IfErr, IfOk, OnErr, OnOk, false, true};
-ghost use Rattle.tee_base.specs.declared.limits.TheConstants.{MAX_LOG_BYTES, MAX_NUMBER};
+ghost use Rattle.tee_base.specs.declared.limits.TheConstants.{MAX_CLIENTS, MAX_LOG_BYTES, MAX_NUMBER};
 ghost use Rattle.alone.specs.KeptLogs.{event_by};
 ghost use Rattle.alone.specs.Logs.{Adds, bytes_in, bytes_of_call, entry, is_full};
 ghost use Rattle.alone.specs.Machine.{Machine};
@@ -69,7 +69,8 @@ impl<A: Application> Recorded<A> {
     ///
     /// `LogFull` where the log has no place for an entry or for the bytes that the call brings; `NoMemory`.
     pub fn call(&mut self, client: u8, call: Call, copy: Call) -> Result<Posted, SharedAnswer>
-        requires { copy ≡ call }
+        requires same { copy ≡ call }
+        requires client { client < MAX_CLIENTS }
         ensures step { GoesInStep A.behaviour self.old.side self.old.log
             self.new.side self.new.log }
         ensures ok { OnOk result
@@ -94,6 +95,7 @@ impl<A: Application> Recorded<A> {
     /// The call in a log that has a place for it.
     fn make_call(&mut self, client: u8, call: Call, copy: Call) -> Result<Posted, NoMemory>
         requires same { copy ≡ call }
+        requires client { client < MAX_CLIENTS }
         requires bytes { bytes_of_call call ≤ MAX_LOG_BYTES - bytes_in self.old.log.entries }
         ensures step { GoesInStep A.behaviour self.old.side self.old.log
             self.new.side self.new.log }

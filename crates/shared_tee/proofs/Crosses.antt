@@ -2,10 +2,14 @@
 use denote.RattleType.{RattleType}
 use denote.Param.Send.{IsSend, IsSync, sendable, struct_send, enum_send, view_send, recorded_send}
 use Rattle.std.proofs.Crossing.{Box-send, Vec-send, Vec-sync, crosses, frees}
+use Rattle.std.proofs.Crossing.{send as crossing_send}
 use Rattle.std.proofs.MapsCrossing.{BTreeMap-send}
 use Rattle.tee_base.specs.contracts.bytes.Bytes as Bytes
 use Rattle.uuid.specs.contracts.Uuid as Uuid
 use Rattle.app_api.specs.contracts.login.Login as Login
+use Rattle.app_api.specs.contracts.reference.Direction as Direction
+use Rattle.app_api.specs.contracts.reference.Reference as Reference
+use Rattle.app_api.specs.contracts.reference.References as References
 use Rattle.app_api.specs.contracts.param.Param as Param
 use Rattle.app_api.specs.contracts.param.Params as Params
 use Rattle.app_api.specs.contracts.call.Call as Call
@@ -31,6 +35,8 @@ use Rattle.instances.specs.contracts.session.SessionState as SessionState
 use Rattle.instances.specs.contracts.session.Slot as Slot
 use Rattle.instances.specs.contracts.session.Session as Session
 use Rattle.instances.specs.contracts.instances.Instances as Instances
+use Rattle.shared_mem.specs.contracts.block.Block as Block
+use Rattle.shared_mem.specs.contracts.blocks.Blocks as Blocks
 use Rattle.op_queue.specs.contracts.operation.Progress as Progress
 use Rattle.op_queue.specs.contracts.operation.Operation as Operation
 use Rattle.op_queue.specs.contracts.queue.OpQueue as OpQueue
@@ -121,6 +127,15 @@ Login-field = search (Uuid-field, sendable) depth 60 fits 20000
 
 Login-field-sync : IsSync Login.the_field.row
 Login-field-sync = search (Uuid-field-sync, sendable) depth 60 fits 20000
+
+Direction-field : IsSend Direction.the_field.row
+Direction-field = search sendable depth 60 fits 20000
+
+Reference-field : IsSend Reference.the_field.row
+Reference-field = search sendable depth 60 fits 20000
+
+References-field : IsSend References.the_field.row
+References-field = search (Reference-field, sendable) depth 60 fits 20000
 
 Param-field : IsSend Param.the_field.row
 Param-field = search (Bytes-field, sendable) depth 60 fits 20000
@@ -330,7 +345,7 @@ Progress-send : IsSend Progress.the_row
 Progress-send = search (Progress-field, sendable) depth 60
 
 Operation-field : IsSend Operation.the_field.row
-Operation-field = search (Progress-field, sendable) depth 60 fits 20000
+Operation-field = search (Progress-field, References-field, sendable) depth 60 fits 20000
 
 Operation-send : IsSend Operation.the_row
 Operation-send = search (Operation-field, sendable) depth 60
@@ -340,6 +355,15 @@ OpQueue-field = search (Operation-send, Vec-send, sendable) depth 60 fits 20000
 
 OpQueue-send : IsSend OpQueue.the_row
 OpQueue-send = search (OpQueue-field, sendable) depth 60
+
+Block-field : IsSend Block.the_field.row
+Block-field = search (Direction-field, Bytes-field, sendable) depth 60 fits 20000
+
+Block-send : IsSend Block.the_row
+Block-send = search (Block-field, sendable) depth 60
+
+Blocks-field : IsSend Blocks.the_field.row
+Blocks-field = search (ArrayVec-field, Block-send, crossing_send, sendable) depth 60 fits 20000
 
 Group-field : IsSend Group.the_field.row
 Group-field = search (Vec-send, sendable) depth 60 fits 20000
@@ -536,7 +560,7 @@ Instance-send : (A : RattleType) → IsSend A → IsSend (Instance.the_row A)
 Instance-send A a = let f = Instance-field A a in search sendable depth 60
 
 AppSide-field : (A : RattleType) → IsSend A → IsSend (AppSide.the_field A).row
-AppSide-field A a = search (Instances-field, Instance-send, OpQueue-field, Held-field, Operations-field, Vec-send, sendable) depth 60 fits 20000
+AppSide-field A a = search (Instances-field, Instance-send, OpQueue-field, Blocks-field, Held-field, Operations-field, Vec-send, sendable) depth 60 fits 20000
 
 AppSide-send : (A : RattleType) → IsSend A → IsSend (AppSide.the_row A)
 AppSide-send A a = let f = AppSide-field A a in search sendable depth 60

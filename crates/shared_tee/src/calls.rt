@@ -1,14 +1,15 @@
 //! What clients ask for, each call through its application's own cell, which it holds meanwhile.
 
-ghost use Rattle.std.specs.Prelude.{◌≡◌, ◌<◌, ◌^◌, ℕ, IfErr, IfOk, OnOk};
+ghost use Rattle.std.specs.Prelude.{◌≡◌, ◌<◌, ◌^◌, ℕ, IfErr, IfOk, OnOk, true};
 ghost use Rattle.app_api.specs.declared.call.Call.TheVariants as calls;
+ghost use Rattle.app_api.specs.Calls.{is_memory_call};
 ghost use Rattle.alone.specs.Logs.{bytes_of_call, bytes_of_params};
 ghost use Rattle.alone.specs.Step.{Cancelled};
 ghost use Rattle.shared_tee.specs.Passes.{GoesOn, IsPass, IsPassOf, IsRefused, Makes, Posts};
 
 use crate::pass::Pass;
 use crate::shared::SharedTeeOver;
-use alone::{Call, copy_params};
+use alone::{Call, copy_call, copy_params};
 use app_api::{Application, Login, Params};
 use shared_parts::{Posted, SharedAnswer};
 use store_api::Volume;
@@ -155,6 +156,32 @@ impl<V: Volume, A: Application> SharedTeeOver<V, A> {
         ensures err { IfErr result (λ why. IsRefused why 0 pass.old pass.new) }
     {
         self.post(pass, Call::Close { label }, Call::Close { label })
+    }
+
+    /// A client's call about shared memory, which is answered at once.
+    ///
+    /// # Errors
+    ///
+    /// As of `open_session`.
+    pub fn memory(&self, pass: &mut Pass<V, A>, call: &Call) -> Result<Posted, SharedAnswer>
+        requires memory { is_memory_call call.now ≡ true }
+        requires of { IsPassOf self.now pass.old }
+        requires few { pass.old.calls < 2 ^ 60 }
+        ensures of { IsPassOf self.now pass.new }
+        ensures goes { GoesOn pass.old pass.new }
+        ensures ok { IfOk result (λ posted.
+            Posts V.keeper A.behaviour call.now posted pass.old pass.new) }
+        ensures err { IfErr result (λ why.
+            IsRefused why (bytes_of_call call.now) pass.old pass.new) }
+    {
+        let Ok(kept) = copy_call(self.alloc, call) else {
+            return Err(self.refuse(pass));
+        };
+        let Ok(logged) = copy_call(self.alloc, call) else {
+            drop(kept);
+            return Err(self.refuse(pass));
+        };
+        self.post(pass, kept, logged)
     }
 
     /// A client asks for the operation of this number to be cancelled.

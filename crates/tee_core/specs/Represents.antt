@@ -17,6 +17,7 @@ use Rattle.tee_core.specs.declared.happened.Event.{Event}
 use Rattle.tee_core.specs.declared.happened.Event.TheVariants as events
 use Rattle.tee_core.specs.declared.tee.TeeOver.{TeeOver}
 use Rattle.tee_base.specs.Words.{Sequence}
+use Rattle.tee_base.specs.declared.limits.TheConstants.{MAX_CLIENTS}
 
 -- ---- stores and regions
 
@@ -121,6 +122,12 @@ machine_event (events.Turn app instance) kind = turn_of kind instance
 -- what the event is for the world, where it went so
 abbrev pub event_of : Event → TurnKind → AppEvent
 event_of e kind = record { app = app_of e; event = machine_event e kind }
+
+-- a call is one of the eight clients'
+abbrev pub IsOfClient : Event → Type 0
+IsOfClient (events.Call app client call) = client < MAX_CLIENTS
+IsOfClient (events.Cancel app op) = Unit {0}
+IsOfClient (events.Turn app instance) = Unit {0}
 
 -- only a call is an event for which there may be no memory
 abbrev pub IsCall : Event → Type 0

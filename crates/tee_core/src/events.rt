@@ -1,6 +1,6 @@
 //! Events of all applications, each of them one event of every world that the value represents.
 
-ghost use Rattle.tee_base.specs.declared.limits.TheConstants.{MAX_NUMBER};
+ghost use Rattle.tee_base.specs.declared.limits.TheConstants.{MAX_CLIENTS, MAX_NUMBER};
 ghost use Rattle.std.specs.Prelude.{◌≡◌, ◌<◌, ◌≤◌, ◌+◌, ◌^◌, ℕ, [], IfOk, OnErr, Some, slice_get};
 ghost use Rattle.alone.specs.Machine.{Machine};
 ghost use Rattle.alone.specs.declared.turn.TurnKind.TheVariants.{Plain};
@@ -8,7 +8,7 @@ ghost use Rattle.alone.specs.Step.{is_answered, is_changing, step, Called, Cance
 ghost use Rattle.app_side.specs.Represents.{event_of as turn_of, store_kind};
 ghost use Rattle.object_asks.specs.Serving.{SaysChange};
 ghost use Rattle.tee_core.specs.Happenings.{happened_in};
-ghost use Rattle.tee_core.specs.Represents.{app_count, app_of, event_of, machine_event, turns_made, volume_of, IsCall, KeepsMachines, Represents};
+ghost use Rattle.tee_core.specs.Represents.{app_count, app_of, event_of, machine_event, turns_made, volume_of, IsCall, IsOfClient, KeepsMachines, Represents};
 ghost use Rattle.tee_core.specs.Stepping.{KeepsOthers, MakesEvent};
 ghost use Rattle.tee_core.specs.World.{World};
 
@@ -48,6 +48,7 @@ impl<B, V: Volume, A: Application> TeeOver<B, V, A> {
     #[inline(never)]
     pub fn event(&mut self, event: Event) -> Result<Happened, NoMemory>
         requires known { app_of event < app_count self.old }
+        requires client { IsOfClient event }
         requires room { turns_made self.old (app_of event) < MAX_NUMBER }
         ensures made { IfOk result (λ told.
             MakesEvent A.behaviour (event_of event told.kind) told.kind self.old self.new) }
@@ -74,6 +75,7 @@ impl<B, V: Volume, A: Application> TeeOver<B, V, A> {
     #[inline(never)]
     pub(crate) fn call(&mut self, app: u8, client: u8, call: Call) -> Result<Happened, NoMemory>
         requires known { app < app_count self.old }
+        requires client { client < MAX_CLIENTS }
         ensures made { IfOk result (λ told. MakesEvent A.behaviour
             (record { app = app; event = Called client call }) told.kind self.old self.new) }
         ensures told { IfOk result (λ told.

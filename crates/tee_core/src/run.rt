@@ -1,7 +1,7 @@
 //! Calls that are run until they are answered.
 
 ghost use Rattle.std.specs.Prelude.{◌≡◌, ◌+◌, ◌≤◌, ◌<◌, ◌^◌, false, IfOk, OnErr, OnOk, Some, slice_get};
-ghost use Rattle.tee_base.specs.declared.limits.TheConstants.{MAX_CALL_TURNS, MAX_NUMBER};
+ghost use Rattle.tee_base.specs.declared.limits.TheConstants.{MAX_CALL_TURNS, MAX_CLIENTS, MAX_NUMBER};
 ghost use Rattle.alone.specs.Machine.{Machine};
 ghost use Rattle.alone.specs.Marks.{Marks, SameWithin};
 ghost use Rattle.tee_core.specs.Happenings.{IsPlainBehind, marks_of, told_of_call};
@@ -29,6 +29,7 @@ impl<B, V: Volume, A: Application> TeeOver<B, V, A> {
     /// There is no memory for the call, or to tell of what happened: then only the first events of such a run were made.
     pub fn run(&mut self, app: u8, client: u8, call: Call) -> Result<RunReplies, NoMemory>
         requires known { app < app_count self.old }
+        requires client { client < MAX_CLIENTS }
         requires room { turns_made self.old app + MAX_CALL_TURNS ≤ MAX_NUMBER }
         ensures world { IfOk result (λ told.
             (world : World A) (m : Machine A) (marks : Marks) → Represents self.old world

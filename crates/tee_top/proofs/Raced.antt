@@ -105,7 +105,7 @@ begins_leaves form hosts seed stores old new begins key (inr left) = left
 -- ---- lines
 
 named_line : (count : ℕ) (line : Line) → IsKnown count line → (app client : ℕ) → is_line_of app client line ≡ true → app < count
-named_line count (lines.Call a c post call) known app client is = subst (λ n. n < count) (eqb-true a app (and_parts (a == app) (c == client) is).0) known
+named_line count (lines.Call a c post call) known app client is = subst (λ n. n < count) (eqb-true a app (and_parts (a == app) (c == client) is).0) known.0
 named_line count (lines.Turns a c instance turns) known app client is = subst (λ n. n < count) (eqb-true a app (and_parts (a == app) (c == client) is).0) known
 named_line count (lines.Cancel a c op) known app client is = subst (λ n. n < count) (eqb-true a app (and_parts (a == app) (c == client) is).0) known
 named_line count (lines.Fuse calls) known app client is = absurd (cc)

@@ -7,6 +7,7 @@ use Rattle.app_api.specs.declared.ask.Ask.TheVariants as asked
 use Rattle.app_api.specs.declared.ask.Answer.TheVariants as answers
 use Rattle.app_api.specs.declared.ask.Given.{Given}
 use Rattle.app_api.specs.declared.ask.Given.TheVariants as givens
+use Rattle.app_api.specs.declared.out.Out.TheVariants as outs
 use Rattle.app_api.specs.Outs.{no_outs}
 use Rattle.test_app_side.specs.declared.player.Play.{Play}
 use Rattle.test_app_side.specs.declared.player.Play.TheVariants as plays
@@ -23,6 +24,10 @@ told_by given = SUCCESS
 abbrev pub return_with : Code → Ask
 return_with code = asked.Return code no_outs
 
+-- the return of this code, with the bytes `xy` for the first parameter
+abbrev pub give_with : Code → Ask
+give_with code = asked.Return code (record no_outs { p0 = outs.Mem (120 ∷ 121 ∷ []) })
+
 -- the return of SUCCESS where this was told, and else a panic
 abbrev pub success_if : Code → Code → Ask
 success_if expected told = if told.0 == expected.0 then return_with SUCCESS else asked.Panic told
@@ -38,6 +43,7 @@ opening = asked.ObjOpen 1 (97 ∷ []) 51
 -- what a play asks for, where this was told
 abbrev pub ask_of : Play → Code → Ask
 ask_of (plays.Return code) told = return_with code
+ask_of (plays.Give code) told = give_with code
 ask_of plays.Told told = return_with told
 ask_of (plays.Expect code) told = success_if code told
 ask_of plays.Flag told = asked.CancelFlag

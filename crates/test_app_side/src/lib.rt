@@ -2,6 +2,8 @@
 //! outside.
 #![tactic(auto)]
 
+#[cfg(test)]
+mod blocks;
 pub mod player;
 #[cfg(test)]
 mod rows;

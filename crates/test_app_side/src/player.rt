@@ -3,7 +3,7 @@
 ghost use Rattle.std.specs.Prelude.{◌≡◌, IfOk};
 ghost use Rattle.test_app_side.specs.Player as player;
 
-use app_api::{Answer, Application, Ask, Given, Outs};
+use app_api::{Answer, Application, Ask, Given, Out, Outs};
 use std::alloc::Global;
 use tee_base::{Bytes, Code, NoMemory};
 
@@ -12,6 +12,8 @@ use tee_base::{Bytes, Code, NoMemory};
 pub enum Play {
     /// The entry returns this code.
     Return(Code),
+    /// The entry returns this code, and the bytes `xy` for its first parameter.
+    Give(Code),
     /// The entry returns the code that the last ask was refused with, CANCEL where it was answered yes, the number of the login
     /// where it was answered with an identity, and else SUCCESS.
     Told,
@@ -70,6 +72,14 @@ fn return_with(code: Code) -> Ask
     }
 }
 
+fn give_with(alloc: Global, code: Code) -> Result<Ask, NoMemory>
+    ensures { IfOk result (λ ask. ask ≡ player.give_with code) }
+{
+    let mut outs = Outs::nothing();
+    outs.p0 = Out::Mem(Bytes::from_slice(alloc, b"xy")?);
+    Ok(Ask::Return { code, outs })
+}
+
 fn success_if(expected: Code, told: Code) -> Ask
     ensures { result ≡ player.success_if expected told }
 {
@@ -107,6 +117,7 @@ fn ask_of(alloc: Global, play: Play, told: Code) -> Result<Ask, NoMemory>
 {
     match play {
         Play::Return(code) => Ok(return_with(code)),
+        Play::Give(code) => give_with(alloc, code),
         Play::Told => Ok(return_with(told)),
         Play::Expect(code) => Ok(success_if(code, told)),
         Play::Flag => Ok(Ask::CancelFlag),

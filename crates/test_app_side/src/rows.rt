@@ -174,7 +174,7 @@ const RESTARTED: &[Row] = &[
 ];
 
 /// An application that is kept, of which nothing is left once the power came back.
-const KEPT: Table = Table {
+pub const KEPT: Table = Table {
     player: PLAIN,
     keep: true,
     failing: &[],
@@ -357,7 +357,7 @@ const NOT_LOST: &[Row] = &[
 fn check_damaged(rt: &impl Abort, alloc: Global, player: Player, rows: &[Row]) {
     let mut store = Damaged::new(Some(Meets::OtherTag), Some(Meets::BrokenRule), None);
     let mut side = begun(rt, alloc, player, true);
-    run(rt, &mut side, &mut store, rows);
+    run(rt, alloc, &mut side, &mut store, rows);
     drop(side);
     drop(store);
 }

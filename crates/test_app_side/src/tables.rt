@@ -4,12 +4,13 @@ ghost use Rattle.std.specs.Prelude.{◌≡◌, false};
 ghost use Rattle.app_side.specs.Represents.{is_lost};
 
 use super::player::Player;
-use app_api::{Host, Login, Params, Properties};
+use alone::{Outputs, Shown};
+use app_api::{Host, Login, Params, Properties, Reference};
 use app_side::{AppSide, Call, Replies, Reply, TurnKind};
 use std::alloc::Global;
 use std::process::Abort;
 use store_api::{AppStore, MapStore};
-use tee_base::{Bytes, Code, Origin};
+use tee_base::{Bytes, Code, Origin, limits};
 use uuid::Uuid;
 
 /// An event in words that a table can hold, or what is asked of the application meanwhile. The calls are those of client 0
@@ -23,7 +24,17 @@ pub enum Do {
     /// An open as the group of this number.
     OpenGroup(u32, u32),
     Invoke(u32),
+    /// An open, or an invoke, of which the first two parameters are these references.
+    OpenWith(u32, Reference, Option<Reference>),
+    InvokeWith(u32, Reference, Option<Reference>),
     Close(u32),
+    /// A block with these flags and of this size.
+    Share(u32, u32, u32),
+    /// These bytes into a block, from its beginning on.
+    Fill(u32, &'static [u8]),
+    /// A block is shown with these bytes.
+    Shows(u32, &'static [u8]),
+    Unshare(u32),
     Cancel(u64),
     /// So many turns that go as they are to. The last of them has all of the replies.
     Turns(u32),
@@ -87,8 +98,37 @@ fn open_as(label: u32, login: &Login) -> Call {
     }
 }
 
-/// The call that the event is, and its client. What is no call is taken for a close.
-fn call_of(what: &Do) -> (u8, Call) {
+/// Parameters of which the first two are these references.
+fn params_with(first: &Reference, second: &Option<Reference>) -> Params {
+    let mut params = Params::nothing();
+    params.p0 = first.param();
+    if let Some(second) = second {
+        params.p1 = second.param();
+    }
+    params
+}
+
+/// The call about shared memory that the event is. What is none is taken for a show.
+fn memory_call_of(rt: &impl Abort, alloc: Global, what: &Do) -> Call {
+    match what {
+        Do::Share(block, flags, size) => Call::Share {
+            block: *block,
+            flags: *flags,
+            size: *size,
+        },
+        Do::Fill(block, bytes) => Call::Fill {
+            block: *block,
+            at: 0,
+            bytes: Bytes::from_slice(alloc, bytes).expect(rt, "bytes"),
+        },
+        Do::Unshare(block) => Call::Unshare { block: *block },
+        Do::Shows(block, _) => Call::Show { block: *block },
+        _ => Call::Show { block: 0 },
+    }
+}
+
+/// The call that the event is, and its client. What is no other call is one about shared memory.
+fn call_of(rt: &impl Abort, alloc: Global, what: &Do) -> (u8, Call) {
     match what {
         Do::Open(label) => (0, open_as(*label, &Login::Public)),
         Do::OpenFor(client, label) => (*client, open_as(*label, &Login::Public)),
@@ -102,15 +142,32 @@ fn call_of(what: &Do) -> (u8, Call) {
                 params: Params::nothing(),
             },
         ),
+        Do::OpenWith(label, first, second) => (
+            0,
+            Call::Open {
+                label: *label,
+                login: Login::Public,
+                params: params_with(first, second),
+            },
+        ),
+        Do::InvokeWith(label, first, second) => (
+            0,
+            Call::Invoke {
+                label: *label,
+                command: 0,
+                params: params_with(first, second),
+            },
+        ),
         Do::Close(label) => (0, Call::Close { label: *label }),
-        _ => (0, Call::Close { label: 0 }),
+        _ => (0, memory_call_of(rt, alloc, what)),
     }
 }
 
-fn call(rt: &impl Abort, side: &mut AppSide<Player>, what: &Do) -> Replies
+fn call(rt: &impl Abort, alloc: Global, side: &mut AppSide<Player>, what: &Do) -> Replies
     ensures { is_lost side.new ≡ is_lost side.old }
 {
-    let (client, call) = call_of(what);
+    let (client, call) = call_of(rt, alloc, what);
+    assert!(rt; client < limits::MAX_CLIENTS);
     side.call(client, call).expect(rt, "a call").replies
 }
 
@@ -129,7 +186,7 @@ fn turn_without_store(rt: &impl Abort, side: &mut AppSide<Player>) -> Replies
 }
 
 /// What needs no store.
-fn event(rt: &impl Abort, side: &mut AppSide<Player>, what: &Do) -> Replies
+fn event(rt: &impl Abort, alloc: Global, side: &mut AppSide<Player>, what: &Do) -> Replies
     ensures { is_lost side.new ≡ is_lost side.old }
 {
     match what {
@@ -137,7 +194,7 @@ fn event(rt: &impl Abort, side: &mut AppSide<Player>, what: &Do) -> Replies
         Do::Starve => starve(rt, side),
         Do::Teardown(code) => side.teardown(1, *code),
         Do::TurnWithoutStore => turn_without_store(rt, side),
-        _ => call(rt, side, what),
+        _ => call(rt, alloc, side, what),
     }
 }
 
@@ -155,12 +212,37 @@ fn are_told(side: &AppSide<Player>, replies: &Replies, wanted: &[Told]) -> bool 
     holds
 }
 
+/// Whether the first output of the first reply is these bytes, where it is to be.
+fn is_shown(replies: &Replies, what: &Do) -> bool {
+    let Do::Shows(_, wanted) = what else {
+        return true;
+    };
+    match replies.as_slice().first() {
+        Some(
+            Reply {
+                outputs: Outputs {
+                    p0: Shown::Mem { bytes, .. },
+                    ..
+                },
+                ..
+            },
+        ) => bytes.as_slice() == *wanted,
+        _ => false,
+    }
+}
+
 /// Makes what needs no store: whether it has the replies.
-fn is_event_told(rt: &impl Abort, side: &mut AppSide<Player>, what: &Do, wanted: &[Told]) -> bool
+fn is_event_told(
+    rt: &impl Abort,
+    alloc: Global,
+    side: &mut AppSide<Player>,
+    what: &Do,
+    wanted: &[Told],
+) -> bool
     ensures { is_lost side.new ≡ is_lost side.old }
 {
-    let replies = event(rt, side, what);
-    are_told(side, &replies, wanted)
+    let replies = event(rt, alloc, side, what);
+    are_told(side, &replies, wanted) && is_shown(&replies, what)
 }
 
 /// A turn: whether it is of this kind, and has the replies.
@@ -201,6 +283,7 @@ fn are_turns_told<S: AppStore>(
 /// Makes the event of a row, or looks: whether all is as the row says.
 fn is_row_told<S: AppStore>(
     rt: &impl Abort,
+    alloc: Global,
     side: &mut AppSide<Player>,
     store: &mut S,
     row: &Row,
@@ -214,16 +297,22 @@ fn is_row_told<S: AppStore>(
         Do::Turn(kind) => is_turn_told(rt, side, store, *kind, wanted),
         Do::Live(count) => side.live() == *count,
         Do::NeedsStore => side.needs_store(1),
-        _ => is_event_told(rt, side, what, wanted),
+        _ => is_event_told(rt, alloc, side, what, wanted),
     }
 }
 
 /// Makes the events of the rows, and compares their replies.
-pub fn run<S: AppStore>(rt: &impl Abort, side: &mut AppSide<Player>, store: &mut S, rows: &[Row])
+pub fn run<S: AppStore>(
+    rt: &impl Abort,
+    alloc: Global,
+    side: &mut AppSide<Player>,
+    store: &mut S,
+    rows: &[Row],
+)
     requires { is_lost side.old ≡ (S.keeper.status store.old).lost }
 {
     for (place, row) in rows.iter().enumerate() {
-        let holds = is_row_told(rt, side, store, row);
+        let holds = is_row_told(rt, alloc, side, store, row);
         assert!(rt; holds, "row {place}");
     }
 }
@@ -239,7 +328,7 @@ fn run_over_memory(
     requires { is_lost side.old ≡ false }
 {
     let mut store = MapStore::new(alloc, failing).expect(rt, "a store");
-    run(rt, side, &mut store, rows);
+    run(rt, alloc, side, &mut store, rows);
     drop(store);
 }
 

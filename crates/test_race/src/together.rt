@@ -4,6 +4,8 @@ use super::meeting::Meeting;
 use super::racing::{blank, race_of, race_on};
 use std::alloc::Global;
 use std::process::Abort;
+use std::sync::Wait;
+use std::thread::Threads;
 use tee_base::limits;
 
 /// One client uses its objects while another one's application takes all of its own space, and panics.
@@ -27,6 +29,28 @@ vault 2 00000000 4 p3=1,0
 vault 3 00000000 4
 ";
 
+/// One client fills and shows a block of its own while another one's operations use a block of the same number.
+const FILLED: &str = "\
+vault share 1 3 4
+client 1
+twin share 1 3 4
+twin open 1 sw:1
+twin invoke 1 2 mi:61 vi:3:0 si:1:0:4 vo
+twin invoke 1 7 vi:1:4 so:1:0:4
+client 0
+vault fill 1 1 6162
+vault show 1
+vault unshare 1
+";
+
+/// The replies to the first client.
+const SHOWN: &str = "\
+vault 1 00000000 1
+vault 2 00000000 1
+vault 3 00000000 1 p0=4:00616200
+vault 4 00000000 1
+";
+
 /// Whether a line is a reply of the first client's application.
 fn is_reply(line: &[u8]) -> bool {
     match line.strip_prefix(b"vault ".as_slice()) {
@@ -47,13 +71,26 @@ fn replies_of(rt: &impl Abort, alloc: Global, written: &[u8]) -> Vec<u8> {
     replies
 }
 
+/// Whether two clients of this script come to their second lines at once, and the first has these replies.
+fn they_meet<R: Threads + Wait + Sync + Abort>(
+    rt: &R,
+    alloc: Global,
+    script: &str,
+    replies: &str,
+) -> bool {
+    let gate = Meeting::new();
+    let board = blank(rt, alloc, limits::BOARD_BLOCKS);
+    let (number, written) = race_on(rt, alloc, race_of(script), board, &gate);
+    let found = replies_of(rt, alloc, written.as_slice());
+    number == 0 && found.as_slice() == replies.as_bytes() && gate.have_met()
+}
+
 #[test]
 fn two_clients_are_at_their_lines_at_once(rt: HostRuntime) {
-    let alloc = rt.alloc();
-    let gate = Meeting::new();
-    let board = blank(&rt, alloc, limits::BOARD_BLOCKS);
-    let (number, written) = race_on(&rt, alloc, race_of(ISOLATED), board, &gate);
-    let replies = replies_of(&rt, alloc, written.as_slice());
-    assert!(rt; number == 0 && replies.as_slice() == REPLIES.as_bytes());
-    assert!(rt; gate.have_met());
+    assert!(rt; they_meet(&rt, rt.alloc(), ISOLATED, REPLIES));
+}
+
+#[test]
+fn two_clients_fill_blocks_at_once(rt: HostRuntime) {
+    assert!(rt; they_meet(&rt, rt.alloc(), FILLED, SHOWN));
 }

@@ -67,6 +67,25 @@ fn invoke(alloc: Global) -> Result<LogEvent, NoMemory> {
     }))
 }
 
+/// An invoke with a whole block and a part of it.
+fn referring() -> LogEvent {
+    LogEvent::Call(Call::Invoke {
+        label: 1,
+        command: 40,
+        params: Params {
+            p0: Param::Whole(1),
+            p1: Param::Nothing,
+            p2: Param::Part {
+                block: 1,
+                way: 3,
+                at: 2,
+                size: 2,
+            },
+            p3: Param::Nothing,
+        },
+    })
+}
+
 /// What an application returned of such an invoke.
 fn returned(alloc: Global) -> Result<Reply, NoMemory> {
     Ok(Reply {
@@ -128,6 +147,64 @@ fn refusals(alloc: Global) -> Result<Vec<Row>, NoMemory> {
     Ok(rows)
 }
 
+fn made(op: u64) -> Reply {
+    plain(op, Code::SUCCESS, Origin::Api)
+}
+
+/// What a client is shown of a block of four bytes.
+fn shown(alloc: Global) -> Result<Reply, NoMemory> {
+    let mut reply = made(8);
+    reply.outputs.p0 = Shown::Mem {
+        size: 4,
+        bytes: Bytes::from_slice(alloc, b"\0\0AB")?,
+    };
+    Ok(reply)
+}
+
+/// The calls about shared memory: they have their words, and an invoke has those of references.
+fn memory(alloc: Global) -> Result<Vec<Row>, NoMemory> {
+    let bytes = Bytes::from_slice(alloc, b"AB")?;
+    let mut rows = Vec::new(alloc);
+    rows.push(answered(
+        2,
+        LogEvent::Call(Call::Share {
+            block: 1,
+            flags: 3,
+            size: 4,
+        }),
+        made(6),
+        b"keep log 14 c2 call 6 share 1 3 4\nkeep 6 00000000 1\n",
+    ))?;
+    rows.push(answered(
+        2,
+        LogEvent::Call(Call::Fill {
+            block: 1,
+            at: 2,
+            bytes,
+        }),
+        made(7),
+        b"keep log 15 c2 call 7 fill 1 2 4142\nkeep 7 00000000 1\n",
+    ))?;
+    rows.push(answered(
+        2,
+        LogEvent::Call(Call::Show { block: 1 }),
+        shown(alloc)?,
+        b"keep log 16 c2 call 8 show 1\nkeep 8 00000000 1 p0=4:00004142\n",
+    ))?;
+    rows.push(quiet(
+        2,
+        referring(),
+        b"keep log 17 c2 call 9 invoke 1 40 sw:1 - sio:1:2:2\n",
+    ))?;
+    rows.push(answered(
+        2,
+        LogEvent::Call(Call::Unshare { block: 7 }),
+        plain(10, Code::ITEM_NOT_FOUND, Origin::Api),
+        b"keep log 18 c2 call 10 unshare 7\nkeep 10 ffff0008 1\n",
+    ))?;
+    Ok(rows)
+}
+
 /// What may befall a turn, and the storage.
 fn losses(alloc: Global) -> Result<Vec<Row>, NoMemory> {
     let mut both = Replies::one(plain(4, Code::OUT_OF_MEMORY, Origin::Tee));
@@ -172,5 +249,6 @@ fn each_event_has_its_line(rt: HostRuntime) -> Result<(), Fail> {
     go_on(&rt, alloc, &mut log, &mut written, calls(alloc)?)?;
     go_on(&rt, alloc, &mut log, &mut written, refusals(alloc)?)?;
     go_on(&rt, alloc, &mut log, &mut written, losses(alloc)?)?;
+    go_on(&rt, alloc, &mut log, &mut written, memory(alloc)?)?;
     Ok(())
 }

@@ -86,7 +86,7 @@ fn first_bad(
     }
 }
 
-const PRINTED: [(&[u8], &[u8]); 10] = [
+const PRINTED: [(&[u8], &[u8]); 13] = [
     (b"", b""),
     (b"one open 1\n", b"one open 1\n"),
     (
@@ -118,6 +118,18 @@ const PRINTED: [(&[u8], &[u8]); 10] = [
         b"one open 1 user:1000 mi:6b\none post open 2 group:4294967295\none open 3 user:0 - vo\n",
     ),
     (
+        b"one share 01 3 524288\none  fill 1 007 4A4b\none show 001 \none unshare 1\n",
+        b"one share 1 3 524288\none fill 1 7 4a4b\none show 1\none unshare 1\n",
+    ),
+    (
+        b"client 2\ntwo share 0 4294967295 4294967295\nclient 0\none fill 4294967295 4294967295 00\n",
+        b"client 2\ntwo share 0 4294967295 4294967295\nclient 0\none fill 4294967295 4294967295 00\n",
+    ),
+    (
+        b"one open 1 user:7 sw:01 si:1:00:3\none post invoke 1 2 - so:0:4294967295:0 sio:4294967295:1:8 -\n",
+        b"one open 1 user:7 sw:1 si:1:0:3\none post invoke 1 2 - so:0:4294967295:0 sio:4294967295:1:8\n",
+    ),
+    (
         b"one open 1 app:67E55044-10B1-426F-9247-BB680E5FE0C8\none open 2 app:67e5504410b1426f9247bb680e5fe0c8 vo\none open 3 app:URN:uuid:67e55044-10b1-426f-9247-bb680e5fe0c8\n",
         b"one open 1 app:67e55044-10b1-426f-9247-bb680e5fe0c8\none open 2 app:67e55044-10b1-426f-9247-bb680e5fe0c8 vo\none open 3 app:67e55044-10b1-426f-9247-bb680e5fe0c8\n",
     ),
@@ -133,7 +145,7 @@ fn each_spelling_has_its_canonical_text(rt: HostRuntime) -> Result<(), Fail> {
     Ok(())
 }
 
-const BAD: [(&[u8], u64); 32] = [
+const BAD: [(&[u8], u64); 61] = [
     (b"one open 1\none opn 2\n", 2),
     (b"one open 1\n \n", 2),
     (b" # no comment\n", 1),
@@ -166,6 +178,35 @@ const BAD: [(&[u8], u64); 32] = [
     (b"one open 1 - user:1\n", 1),
     (b"one open 1 User:1\n", 1),
     (b"one invoke 1 2 user:1\n", 1),
+    (b"one open 1\none post share 1 3 8\n", 2),
+    (b"one post fill 1 0 00\n", 1),
+    (b"one post show 1\n", 1),
+    (b"one post unshare 1\n", 1),
+    (b"one share 1 3\n", 1),
+    (b"one share 1 3 8 0\n", 1),
+    (b"one share 1 3 4294967296\n", 1),
+    (b"one share 1 -1 8\n", 1),
+    (b"one share 4294967296 3 8\n", 1),
+    (b"one fill 1 0\n", 1),
+    (b"one fill 1 0 \n", 1),
+    (b"one fill 1 0 4\n", 1),
+    (b"one fill 1 0 4g\n", 1),
+    (b"one fill 1 0 41 42\n", 1),
+    (b"one fill 1 4294967296 41\n", 1),
+    (b"one show\n", 1),
+    (b"one show 1 1\n", 1),
+    (b"one show x\n", 1),
+    (b"one unshare\n", 1),
+    (b"one unshare 1 1\n", 1),
+    (b"one open 1 sw\n", 1),
+    (b"one open 1 sw:\n", 1),
+    (b"one open 1 sw:1:0\n", 1),
+    (b"one open 1 si:1:0\n", 1),
+    (b"one open 1 si:1:0:3:0\n", 1),
+    (b"one open 1 so:4294967296:0:3\n", 1),
+    (b"one open 1 so:1::3\n", 1),
+    (b"one open 1 sio:1:0:4294967296\n", 1),
+    (b"one open 1 sx:1:0:3\n", 1),
 ];
 
 #[test]

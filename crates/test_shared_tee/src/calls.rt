@@ -3,7 +3,8 @@
 ghost use Rattle.shared_tee.specs.Ending.{ArePasses};
 ghost use Rattle.shared_tee.specs.Passes.{IsPassOf};
 
-use super::shared::{begun, is_answered, open, turn, two_passes, with_bytes};
+use super::memory::check_full;
+use super::shared::{begun, open, post_and_turn, two_passes, with_bytes};
 use app_api::{Application, Params};
 use sample_apps::Store;
 use shared_parts::SharedAnswer;
@@ -11,28 +12,6 @@ use shared_tee::{Pass, SharedTeeOver};
 use std::alloc::Global;
 use std::process::Abort;
 use store_api::Volume;
-
-/// One client opens a session, and another makes its turns. The first one finds the reply.
-fn post_and_turn<V: Volume, A: Application>(
-    rt: &impl Abort,
-    tee: &SharedTeeOver<V, A>,
-    first: &mut Pass<V, A>,
-    second: &mut Pass<V, A>,
-)
-    requires first { IsPassOf tee.now first.old }
-    requires second { IsPassOf tee.now second.old }
-    ensures { IsPassOf tee.now first.new }
-{
-    let posted = open(rt, tee, first, &Params::nothing()).expect(rt, "a call");
-    assert!(rt; posted.op == 1 && posted.instance == 1);
-    for _ in 0..20 {
-        if is_answered(rt, tee, first, 1) {
-            return;
-        }
-        turn(rt, tee, second, 1);
-    }
-    panic!(rt; "no answer");
-}
 
 /// How many calls with so many bytes fill a log, which holds 67,108,864 bytes.
 const CALLS: usize = 128;
@@ -58,6 +37,7 @@ fn fill<V: Volume, A: Application>(
     let full = open(rt, tee, pass, &one);
     drop(one);
     assert!(rt; full == Err(SharedAnswer::LogFull));
+    check_full(rt, alloc, tee, pass);
     let made = open(rt, tee, pass, &Params::nothing()).is_ok();
     assert!(rt; made);
 }

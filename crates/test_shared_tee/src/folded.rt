@@ -23,7 +23,7 @@ use std::alloc::Global;
 use std::process::Abort;
 use std::thread::{Threads, join};
 use store_api::{AppStore, MapStore, Volume};
-use tee_base::Code;
+use tee_base::{Code, limits};
 
 /// How many calls a thread makes, five in each of its sessions.
 const CALLS: usize = 200;
@@ -316,6 +316,7 @@ fn answers<S: AppStore, A: Application>(
 {
     match &entry.event {
         LogEvent::Call(call) => {
+            assert!(rt; entry.client < limits::MAX_CLIENTS);
             let call = copy_call(alloc, call).expect(rt, "a copy");
             side.call(entry.client, call).expect(rt, "a call").replies
         }

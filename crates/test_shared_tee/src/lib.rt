@@ -8,6 +8,8 @@ mod folded;
 #[cfg(test)]
 mod held;
 #[cfg(test)]
+mod memory;
+#[cfg(test)]
 mod pair;
 #[cfg(test)]
 mod shared;

@@ -179,6 +179,45 @@ pub fn is_answered<V: Volume, A: Application>(
     }
 }
 
+/// One client makes turns of the first instance, until another finds the reply to its operation.
+pub fn turn_for<V: Volume, A: Application>(
+    rt: &impl Abort,
+    tee: &SharedTeeOver<V, A>,
+    first: &mut Pass<V, A>,
+    second: &mut Pass<V, A>,
+    op: u64,
+)
+    requires first { IsPassOf tee.now first.old }
+    requires second { IsPassOf tee.now second.old }
+    ensures first { IsPassOf tee.now first.new }
+    ensures second { IsPassOf tee.now second.new }
+{
+    for _ in 0..20 {
+        if is_answered(rt, tee, first, op) {
+            return;
+        }
+        turn(rt, tee, second, 1);
+    }
+    panic!(rt; "no answer");
+}
+
+/// One client opens a session, and another makes its turns. The first one finds the reply.
+pub fn post_and_turn<V: Volume, A: Application>(
+    rt: &impl Abort,
+    tee: &SharedTeeOver<V, A>,
+    first: &mut Pass<V, A>,
+    second: &mut Pass<V, A>,
+)
+    requires first { IsPassOf tee.now first.old }
+    requires second { IsPassOf tee.now second.old }
+    ensures first { IsPassOf tee.now first.new }
+    ensures second { IsPassOf tee.now second.new }
+{
+    let posted = open(rt, tee, first, &Params::nothing()).expect(rt, "a call");
+    assert!(rt; posted.op == 1 && posted.instance == 1);
+    turn_for(rt, tee, first, second, 1);
+}
+
 /// So many bytes as the first parameter.
 pub fn with_bytes(rt: &impl Abort, alloc: Global, count: usize) -> Params {
     let zeros = Vec::from_elem(alloc, 0, count).expect(rt, "zeros");

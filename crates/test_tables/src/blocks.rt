@@ -1,7 +1,7 @@
 //! The blocks of memory that clients share: rows by hand, each call and each answer.
 
 use app_api::Param;
-use shared_mem::{BlockAnswer, Blocks, Direction, Reference};
+use shared_mem::{BlockAnswer, Blocks};
 use std::process::Abort;
 use tee_base::Code;
 
@@ -18,11 +18,11 @@ fn shows(blocks: &Blocks, client: u8, block: u32, bytes: &[u8]) -> bool {
     }
 }
 
-/// So many bytes of a block from a place on.
-fn part(block: u32, direction: Direction, at: u32, size: u32) -> Reference {
-    Reference::Part {
+/// So many bytes of a block from a place on, as an input (1), an output (2) or both (3).
+fn part(block: u32, way: u8, at: u32, size: u32) -> Param {
+    Param::Part {
         block,
-        direction,
+        way,
         at,
         size,
     }
@@ -72,43 +72,29 @@ fn references_are_checked(rt: HostRuntime) {
     let mut blocks = Blocks::new(rt.alloc());
     assert!(rt; blocks.share(0, 1, 1, 8).is_ok() && blocks.share(0, 2, 2, 8).is_ok());
     let rows = [
-        (Reference::Whole { block: 1 }, Ok(())),
-        (Reference::Whole { block: 3 }, refused(Code::ITEM_NOT_FOUND)),
-        (part(1, Direction::Input, 8, 0), Ok(())),
-        (
-            part(1, Direction::Input, 6, 3),
-            refused(Code::BAD_PARAMETERS),
-        ),
-        (
-            part(1, Direction::Input, u32::MAX, 1),
-            refused(Code::BAD_PARAMETERS),
-        ),
-        (
-            part(1, Direction::Output, 0, 8),
-            refused(Code::BAD_PARAMETERS),
-        ),
-        (
-            part(1, Direction::Both, 0, 8),
-            refused(Code::BAD_PARAMETERS),
-        ),
-        (part(2, Direction::Output, 0, 8), Ok(())),
-        (
-            part(2, Direction::Both, 0, 8),
-            refused(Code::BAD_PARAMETERS),
-        ),
-        (
-            part(3, Direction::Both, 9, 9),
-            refused(Code::ITEM_NOT_FOUND),
-        ),
+        (Param::Whole(1), Ok(())),
+        (Param::Whole(3), refused(Code::ITEM_NOT_FOUND)),
+        (part(1, 1, 8, 0), Ok(())),
+        (part(1, 1, 6, 3), refused(Code::BAD_PARAMETERS)),
+        (part(1, 1, u32::MAX, 1), refused(Code::BAD_PARAMETERS)),
+        (part(1, 2, 0, 8), refused(Code::BAD_PARAMETERS)),
+        (part(1, 3, 0, 8), refused(Code::BAD_PARAMETERS)),
+        (part(2, 2, 0, 8), Ok(())),
+        (part(2, 3, 0, 8), refused(Code::BAD_PARAMETERS)),
+        (part(3, 3, 9, 9), refused(Code::ITEM_NOT_FOUND)),
+        (part(3, 4, 0, 0), refused(Code::ITEM_NOT_FOUND)),
+        (part(1, 0, 0, 0), refused(Code::BAD_PARAMETERS)),
+        (part(1, 4, 0, 0), refused(Code::BAD_PARAMETERS)),
+        (Param::ValueIn(1, 2), Ok(())),
     ];
     for (reference, answer) in rows {
         assert!(rt; blocks.check(0, &reference) == answer);
     }
-    assert!(rt; blocks.check(1, &Reference::Whole { block: 1 }) == refused(Code::ITEM_NOT_FOUND));
+    assert!(rt; blocks.check(1, &Param::Whole(1)) == refused(Code::ITEM_NOT_FOUND));
 }
 
 /// What an application is given for a reference: its kind, its size and its bytes, where it is given any.
-fn given(blocks: &Blocks, client: u8, reference: &Reference) -> (u8, usize, bool) {
+fn given(blocks: &Blocks, client: u8, reference: &Param) -> (u8, usize, bool) {
     if blocks.check(client, reference).is_err() {
         return (0, 0, false);
     }
@@ -127,7 +113,7 @@ fn holds(param: &Param, bytes: &[u8]) -> bool {
 }
 
 /// Puts bytes through a reference with an output that has room for them.
-fn deliver(blocks: &mut Blocks, client: u8, reference: &Reference, bytes: &[u8]) -> bool {
+fn deliver(blocks: &mut Blocks, client: u8, reference: &Param, bytes: &[u8]) -> bool {
     if blocks.check(client, reference).is_err() {
         return false;
     }
@@ -147,23 +133,23 @@ fn references_become_memory(rt: HostRuntime) {
     assert!(rt; blocks.share(0, 1, 1, 3).is_ok() && blocks.share(0, 2, 2, 8).is_ok());
     assert!(rt; blocks.share(0, 3, 3, 5).is_ok() && blocks.share(1, 3, 3, 5).is_ok());
     assert!(rt; blocks.fill(0, 1, 0, b"llo").is_ok() && blocks.fill(0, 3, 0, b"hello").is_ok());
-    assert!(rt; given(&blocks, 0, &Reference::Whole { block: 1 }) == (5, 3, true));
-    assert!(rt; given(&blocks, 0, &Reference::Whole { block: 2 }) == (6, 8, false));
-    assert!(rt; given(&blocks, 0, &Reference::Whole { block: 3 }) == (7, 5, false));
-    assert!(rt; given(&blocks, 0, &part(3, Direction::Input, 2, 3)) == (5, 3, true));
-    assert!(rt; given(&blocks, 0, &part(3, Direction::Output, 2, 3)) == (6, 3, false));
-    assert!(rt; given(&blocks, 0, &part(3, Direction::Both, 2, 3)) == (7, 3, true));
-    assert!(rt; given(&blocks, 1, &part(3, Direction::Both, 2, 3)) == (7, 3, false));
+    assert!(rt; given(&blocks, 0, &Param::Whole(1)) == (5, 3, true));
+    assert!(rt; given(&blocks, 0, &Param::Whole(2)) == (6, 8, false));
+    assert!(rt; given(&blocks, 0, &Param::Whole(3)) == (7, 5, false));
+    assert!(rt; given(&blocks, 0, &part(3, 1, 2, 3)) == (5, 3, true));
+    assert!(rt; given(&blocks, 0, &part(3, 2, 2, 3)) == (6, 3, false));
+    assert!(rt; given(&blocks, 0, &part(3, 3, 2, 3)) == (7, 3, true));
+    assert!(rt; given(&blocks, 1, &part(3, 3, 2, 3)) == (7, 3, false));
 }
 
 #[test]
 fn deliveries_are_written(rt: HostRuntime) {
     let mut blocks = Blocks::new(rt.alloc());
     assert!(rt; blocks.share(0, 1, 3, 8).is_ok() && blocks.share(0, 2, 2, 2).is_ok());
-    assert!(rt; deliver(&mut blocks, 0, &part(1, Direction::Output, 2, 4), b"ello"));
+    assert!(rt; deliver(&mut blocks, 0, &part(1, 2, 2, 4), b"ello"));
     assert!(rt; shows(&blocks, 0, 1, b"\0\0ello\0\0"));
-    assert!(rt; deliver(&mut blocks, 0, &part(1, Direction::Output, 2, 4), b"a"));
+    assert!(rt; deliver(&mut blocks, 0, &part(1, 2, 2, 4), b"a"));
     assert!(rt; shows(&blocks, 0, 1, b"\0\0allo\0\0") && shows(&blocks, 0, 2, b"\0\0"));
-    assert!(rt; deliver(&mut blocks, 0, &Reference::Whole { block: 2 }, b"xy"));
+    assert!(rt; deliver(&mut blocks, 0, &Param::Whole(2), b"xy"));
     assert!(rt; shows(&blocks, 0, 2, b"xy") && shows(&blocks, 0, 1, b"\0\0allo\0\0"));
 }

@@ -1,7 +1,7 @@
 //! A full queue, and the way of an operation through it.
 
 use crate::beginning::begin;
-use app_api::{Call, Params};
+use app_api::{Call, Param, Params, References};
 use op_queue::{Cancelled, OpFacts, OpQueue, QueueAnswer};
 use std::process::Abort;
 
@@ -40,6 +40,7 @@ fn facts(instance: u8, running: bool, close: bool) -> Option<OpFacts> {
         client: 3,
         instance,
         session: 5,
+        references: References::none(),
         running,
         close,
     })
@@ -165,4 +166,27 @@ fn what_a_request_does(rt: HostRuntime) {
     flag_one_that_runs(&rt, &mut queue);
     drop_one_that_waits(&rt, &mut queue);
     leave_a_close(&rt, &mut queue);
+}
+
+/// A call that refers to block 7 by its third parameter.
+fn invoke_with_a_block() -> Call {
+    Call::Invoke {
+        label: 0,
+        command: 0,
+        params: Params {
+            p2: Param::Whole(7),
+            ..Params::nothing()
+        },
+    }
+}
+
+#[test]
+fn a_block_is_named_until_the_answer(rt: HostRuntime) {
+    let mut queue = OpQueue::new(rt.alloc());
+    assert!(rt; submit(&mut queue, 1, invoke_with_a_block()) == Some(Ok(1)));
+    assert!(rt; queue.is_named(3, 7) && !queue.is_named(3, 2) && !queue.is_named(2, 7));
+    assert!(rt; begin(&mut queue, 1) == Some(1));
+    assert!(rt; queue.is_named(3, 7));
+    queue.answer(1);
+    assert!(rt; !queue.is_named(3, 7));
 }

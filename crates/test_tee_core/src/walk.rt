@@ -1,7 +1,7 @@
 //! A walk through the calls: events of both, a change that a fuse stops, a loss of the power, and the board in the end.
 
 ghost use Rattle.std.specs.Prelude.{◌≡◌, ◌<◌};
-ghost use Rattle.tee_core.specs.Represents.{app_count, app_of, boots_of};
+ghost use Rattle.tee_core.specs.Represents.{IsOfClient, app_count, app_of, boots_of};
 
 use super::asking::{FEW, Pair, keep, length_of, make, over, run, session, succeed, two};
 use board::Board;
@@ -15,6 +15,7 @@ use tee_core::{Event, Happened, Power, TurnKind};
 fn happen(rt: &impl Abort, tee: &mut Pair, event: Event) -> Happened
     requires known { 1 < app_count tee.old }
     requires own { app_of event ≡ 1 }
+    requires client { IsOfClient event }
     ensures apps { app_count tee.new ≡ app_count tee.old }
     ensures boots { boots_of tee.new ≡ boots_of tee.old }
 {

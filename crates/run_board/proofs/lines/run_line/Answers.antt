@@ -11,7 +11,10 @@ use Rattle.run_board.proofs.Powers.{fuse_whole, order_made}
 use Rattle.run_board.proofs.lines.run_line.Goals as goal
 
 pub run_call-requires-clause-known : goal.run_call-requires-clause-known
-run_call-requires-clause-known g c = subst (λ (line : Line). IsKnown (app_count c.args.tee.now) line) c.in-Call.is c.requires.known
+run_call-requires-clause-known g c = (subst (λ (line : Line). IsKnown (app_count c.args.tee.now) line) c.in-Call.is c.requires.known).0
+
+pub run_call-requires-clause-client : goal.run_call-requires-clause-client
+run_call-requires-clause-client g c = (subst (λ (line : Line). IsKnown (app_count c.args.tee.now) line) c.in-Call.is c.requires.known).1
 
 pub run_turns-requires-clause-known : goal.run_turns-requires-clause-known
 run_turns-requires-clause-known g c = subst (λ (line : Line). IsKnown (app_count c.args.tee.now) line) c.in-Turns.is c.requires.known

@@ -1,4 +1,5 @@
-use Rattle.std.proofs.Common.{◌≡◌, ◌≤◌, List, Err, length, sym, subst, ◌∙◌, ap, arith, rules}
+use Rattle.std.proofs.Common.{◌≡◌, ◌≤◌, List, Err, length, sym, subst, ◌∙◌, ap, arith}
+use Rattle.std.proofs.lemmas.Result.{err_from_is_err_and}
 use Rattle.std.specs.Prelude.{Some, slice_get}
 use Rattle.turn_cell.specs.Words.{cell_id, view as known}
 use Rattle.turn_cell.specs.declared.cell.TurnCell.{TurnCell}
@@ -38,7 +39,9 @@ returns-in_err-storage-clause-err g c =
     let sides = c.args.room.sides.items in
     let count = sides_count room.1 0 room.0 sides room.3.sides in
     let some = room.2.some in
-    let is : c.from_residual.result ≡ Err c.in_err-storage.field-0.0 = search rules in
+    let told = err_from_is_err_and c.from_residual.result c.from_residual.ensures.1 in
+    let same : told.0 ≡ c.in_err-storage.field-0.0 = told.2 in
+    let is : c.from_residual.result ≡ Err c.in_err-storage.field-0.0 = told.1 ∙ ap Err same in
     told_err c.from_residual.result c.in_err-storage.field-0.0 _ is
     (just_back g.V.Volume.keeper g.A.Application.behaviour c.args.volume g.met.V.Volume.rests c.requires.works sides (omega (arith, count, some))
     (none_in_doubt 0 sides (idle room.1 0 room.0 sides room.3.sides)) c.in_err-storage.field-0.0 c.in_err-storage.ensures.err)

@@ -1,8 +1,9 @@
-use Rattle.std.proofs.Common.{◌≡◌, ◌∙◌, ℕ, Bool, Some, find, refl, sym, ap, subst}
+use Rattle.std.proofs.Common.{◌≡◌, ◌∙◌, ℕ, Bool, Err, Some, find, refl, rules, sym, ap, subst}
 use Rattle.tee_base.specs.declared.codes.Origin.TheVariants.{Tee}
 use Rattle.tee_base.specs.declared.codes.TheConstants.Code.{TARGET_DEAD}
 use Rattle.object_asks.specs.Resolutions.{Resolution, Outcome, Panicked, Returned, Serves}
-use Rattle.object_asks.specs.Serving.{CrashTurns, serving_of}
+use Rattle.object_asks.specs.Serving.{CrashTurns, EndsUnchanged, UnlessAnswered, serving_of}
+use Rattle.store_api.specs.Stores.{empty_store}
 use Rattle.object_asks.specs.declared.outcome.Outcome.{Outcome as Result_of}
 use Rattle.object_asks.specs.declared.outcome.Outcome.TheVariants as outcomes
 use Rattle.object_asks.proofs.Crashes.{idle_crash}
@@ -12,11 +13,13 @@ use Rattle.alone.specs.Machine.{Machine, is_number, with_instance}
 use Rattle.alone.specs.Step.{after_ask, serve_outcome, torn_down}
 use Rattle.alone.proofs.Lists.{found_number}
 use Rattle.app_side.specs.Asking.{entry_with_ask, given_next}
+use Rattle.app_side.specs.declared.side.AppSide.{AppSide}
 use Rattle.app_side.specs.Represents.{IsLeft, IsTurned, IsStep, machine_of, machine_over}
 use Rattle.app_side.specs.Serving.{in_doubt_by}
 use Rattle.app_side.proofs.Carried.{below, resolution_above, resolution_below, none_tried, plain_turn}
 use Rattle.app_side.proofs.Crashed.{acted_crash}
-use Rattle.app_side.proofs.TurnLemmas.{answers, moves, returns, tears, torn_lost, turned_lost}
+use Rattle.app_side.proofs.Stored.{same_parts}
+use Rattle.app_side.proofs.TurnLemmas.{answers, moves, returns, starves_alike, starves_turn, tears, torn_lost, turned_lost}
 use Rattle.app_side.proofs.side.AppSide.act.Goals as goal
 
 pub returns-then-entry-ge-MAX_ASKS : goal.returns-then-entry-ge-MAX_ASKS
@@ -79,8 +82,8 @@ returns-in-Answered g c inst found =
           (sym (resolution_below m inst.number c.args.number r ask c.if-entry-ge-MAX_ASKS.false numbered)) (met.crash honest just doubt));
     }
 
-pub returns-in-Returned : goal.returns-in-Returned
-returns-in-Returned g c inst found =
+pub returns-in_ok-end_entry-in-Returned : goal.returns-in_ok-end_entry-in-Returned
+returns-in_ok-end_entry-in-Returned g c inst found =
     let t = g.T.AppStore.keeper in
     let before = t.contents c.args.store.now in
     let after = t.contents c.carry_out.new.store in
@@ -95,7 +98,7 @@ returns-in-Returned g c inst found =
     let out : done.outcome ≡ outcomes.Returned ending = c.in-Returned.is in
     let found_in : find (is_number c.args.number) mid.instances.items ≡ Some inst = ap (λ v. find (is_number c.args.number) v.items) c.carry_out.ensures.instances ∙ found in
     let numbered : inst.number ≡ c.args.number = found_number c.args.number c.args.self.now.instances.items inst found in
-    let turned = c.end_entry.ensures inst found_in numbered in
+    let turned = c.in_ok-end_entry-in-Returned.ensures.ok inst found_in numbered in
     record {
       step = λ model same doubt.
           let m : Machine g.row.A.Denot = machine_over c.args.self.now before.store doubt in
@@ -117,6 +120,35 @@ returns-in-Returned g c inst found =
           (subst (λ (k : Resolution (Machine g.row.A.Denot)). CrashTurns t done.kind (in_doubt_by (serve_outcome (serving_of done.kind) m ask k)) c.args.store.now c.carry_out.new.store)
           (sym (resolution_below m inst.number c.args.number r ask c.if-entry-ge-MAX_ASKS.false numbered)) (met.crash honest just doubt));
     }
+
+-- a return that finds no memory for what the references of an open are
+pub returns-in_err-end_entry-in-Returned : goal.returns-in_err-end_entry-in-Returned
+returns-in_err-end_entry-in-Returned g c inst found =
+    let t = g.T.AppStore.keeper in
+    let before = t.contents c.args.store.now in
+    let after = t.contents c.carry_out.new.store in
+    let mid = c.carry_out.new.self in
+    let done = c.in-Ok.served in
+    let met = c.in-Ok.ensures in
+    let ask = c.args.ask in
+    let ending = c.in-Returned.ending in
+    let r : ActiveEntry = entry_with_ask c.args.entry ask in
+    let out : done.outcome ≡ outcomes.Returned ending = c.in-Returned.is in
+    let none = c.in_err-end_entry-in-Returned.ensures.err in
+    let handed : c.from_residual.result ≡ Err c.in_err-end_entry-in-Returned.field-0.0 = search rules in
+    starves_turn t _ _ _ c.args.number c.from_residual.result c.in_err-end_entry-in-Returned.field-0.0 c.args.self.now c.end_entry.new.self c.end_entry.new.replies
+    c.args.store.now c.carry_out.new.store handed
+    c.carry_out.ensures.tried (subst (λ (o : Result_of). UnlessAnswered o (EndsUnchanged t c.args.store.now c.carry_out.new.store)) out met.ends) (record {
+      alike = λ model same code origin.
+          let m : Machine g.row.A.Denot = machine_over c.args.self.now before.store empty_store in
+          let stated : Outcome (Machine g.row.A.Denot) = serve_outcome (serving_of done.kind) m ask (resolution m c.args.number r ask) in
+          let left : IsLeft (outcomes.Returned ending) stated mid after.store empty_store m = subst (λ (o : Result_of). IsLeft o stated mid after.store empty_store m) out
+          (met.left model same empty_store) in
+          ap (λ (x : Machine g.row.A.Denot). torn_down x c.args.number code origin)
+          (ap (λ (s : AppSide g.row.A.Denot). machine_of s) none.0 ∙ same_parts mid c.args.self.now after.store before.store empty_store left.1);
+      lost = λ same. ap (λ (s : AppSide g.row.A.Denot). s.lost) none.0 ∙ met.kind.lost same;
+      none = none.1;
+    })
 
 pub returns-in-Panicked : goal.returns-in-Panicked
 returns-in-Panicked g c inst found =
@@ -156,11 +188,11 @@ returns-in-Panicked g c inst found =
     }
 
 pub returns-in-Err : goal.returns-in-Err
-returns-in-Err g c inst found = record {
+returns-in-Err g c inst found = let t = g.T.AppStore.keeper in record {
   step = tt;
   kind = tt;
   crash = tt;
   tried = c.carry_out.ensures.tried;
   want = c.in-Err.ensures.want;
-  starves = record { alike = c.in-Err.ensures.starves; none = c.requires.none };
+  starves = starves_alike t _ _ _ _ _ _ c.in-Err.ensures.starves c.in-Err.ensures.want.status c.requires.none;
 }

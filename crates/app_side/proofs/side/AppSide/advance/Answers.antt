@@ -5,7 +5,7 @@ use Rattle.app_side.specs.Represents.{IsStep, machine_over}
 use Rattle.object_asks.specs.Resolutions.{Serves}
 use Rattle.object_asks.specs.Serving.{CrashTurns, serving_of}
 use Rattle.app_side.proofs.Carried.{none_tried, plain_turn}
-use Rattle.std.proofs.lemmas.Result.{IfOk-weaker}
+use Rattle.std.proofs.lemmas.Result.{IfOk-weaker, on_err_weaker}
 use Rattle.alone.specs.Step.{turned_as, turned_at}
 use Rattle.app_side.proofs.Torn.{on_err_any}
 use Rattle.object_asks.proofs.Crashes.{idle_crash}
@@ -48,7 +48,7 @@ returns-in-Some g c =
       kind = is.kind;
       tried = is.tried;
       want = is.want;
-      starves = is.starves;
+      starves = on_err_weaker c.go_on.result (λ starves. record { alike = starves.alike; lost = starves.lost; none = starves.none }) is.starves;
       there = on_err_any c.go_on.result (ap is_some here);
       crash = IfOk-weaker c.go_on.result _ _ (λ kind crash honest just doubt.
           subst (λ (o : Option (Instance g.row.A.Denot)). CrashTurns t kind (turned_at g.A.Application.behaviour (serving_of kind)

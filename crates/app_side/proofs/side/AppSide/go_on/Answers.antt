@@ -1,4 +1,4 @@
-use Rattle.std.proofs.Common.{◌≡◌, ◌∙◌, Bool, Option, Some, None, find, refl, sym, ap, subst}
+use Rattle.std.proofs.Common.{◌≡◌, ◌∙◌, Bool, Err, Option, Some, None, find, refl, rules, sym, ap, subst}
 use Rattle.alone.specs.declared.active_entry.Instance.{Instance}
 use Rattle.alone.specs.declared.active_entry.ActiveEntry.{ActiveEntry}
 use Rattle.app_api.specs.declared.ask.Ask.{Ask}
@@ -13,10 +13,20 @@ use Rattle.app_side.specs.Asking.{is_to_change, reaches_store}
 use Rattle.operation_asks.specs.Kept.{state_of}
 use Rattle.app_side.proofs.Carried.{none_tried, plain_turn}
 use Rattle.app_side.proofs.Taken.{found_there, go_on_turned, place_kept}
-use Rattle.app_side.proofs.TurnLemmas.{begins, begun_lost, moves, none_of}
+use Rattle.app_side.proofs.TurnLemmas.{begins, begun_lost, moves, none_of, starves_alike, starves_turn}
 use Rattle.std.proofs.lemmas.Result.{IfOk-weaker}
 use Rattle.object_asks.proofs.Crashes.{idle_crash}
+use Rattle.object_asks.proofs.ServingLemmas.{by_nothing}
 use Rattle.app_side.proofs.side.AppSide.go_on.Goals as goal
+
+pub returns-in_err-begin : goal.returns-in_err-begin
+returns-in_err-begin g c inst found =
+    let t = g.T.AppStore.keeper in
+    let store = c.args.store.now in
+    let same = by_nothing t store in
+    let handed : c.from_residual.result ≡ Err c.in_err-begin.field-0.0 = search rules in
+    starves_turn t _ _ _ c.args.number c.from_residual.result c.in_err-begin.field-0.0 c.args.self.now c.begin.new.self c.args.replies.now store store handed
+    (none_tried _ (t.status store)) same (starves_alike t c.args.number c.args.self.now c.begin.new.self c.args.replies.now store store c.in_err-begin.ensures.err same.status c.requires.none)
 
 pub returns-then-is_none : goal.returns-then-is_none
 returns-then-is_none g c inst found =
@@ -64,8 +74,9 @@ returns g c inst found =
       tried = subst (λ (b : Bool). TriesOnce b (t.status c.args.store.now) (t.status c.resume.new.store)) (waiting is_to_change) is.tried;
       want = is.want;
       starves = on_err_weaker c.resume.result (λ starves. record {
-        alike = λ code origin. starves.alike code origin ∙ set_torn (machine_of c.args.self.now) c.args.number c.args.place idle code origin c.requires.place
+        alike = λ model same code origin. starves.alike model same code origin ∙ set_torn (machine_of c.args.self.now) c.args.number c.args.place idle code origin c.requires.place
             (ap (λ (y : Instance g.row.A.Denot). y.number) c.index_mut.ensures.value ∙ c.requires.place.named x);
+        lost = starves.lost;
         none = starves.none;
       }) is.starves;
       crash = IfOk-weaker c.resume.result _ _ (λ kind crash honest just doubt. go_on_turned g.A.Application.behaviour (serving_of kind)

@@ -1,4 +1,4 @@
-use Rattle.std.proofs.Common.{◌≡◌, refl, sym, ap, subst}
+use Rattle.std.proofs.Common.{◌≡◌, Err, refl, rules, sym, ap, subst}
 use Rattle.alone.specs.declared.active_entry.Waits.{Waits}
 use Rattle.alone.specs.Machine.{Machine}
 use Rattle.alone.specs.Step.{of_waits, went_on}
@@ -10,9 +10,10 @@ use Rattle.app_side.specs.declared.turns.Entered.{Entered}
 use Rattle.app_side.specs.Asking.{entry_with_ask, is_to_change, reaches_store}
 use Rattle.operation_asks.specs.Kept.{state_of}
 use Rattle.app_side.proofs.Carried.{none_tried, plain_turn}
-use Rattle.app_side.proofs.TurnLemmas.{moves, thinks}
+use Rattle.app_side.proofs.TurnLemmas.{moves, starves_alike, starves_turn, thinks}
 use Rattle.std.proofs.lemmas.Result.{IfOk-weaker}
 use Rattle.object_asks.proofs.Crashes.{idle_crash}
+use Rattle.object_asks.proofs.ServingLemmas.{by_nothing}
 use Rattle.app_side.proofs.side.AppSide.resume.Goals as goal
 
 pub returns-in_ok-think-in-Given : goal.returns-in_ok-think-in-Given
@@ -32,6 +33,15 @@ returns-in_ok-think-in-Given g c inst found =
       starves = tt;
       crash = λ honest just doubt. idle_crash t _ _ c.args.store.now just;
     }
+
+pub returns-in_err-think-in-Given : goal.returns-in_err-think-in-Given
+returns-in_err-think-in-Given g c inst found =
+    let t = g.T.AppStore.keeper in
+    let store = c.args.store.now in
+    let same = by_nothing t store in
+    let handed : c.from_residual.result ≡ Err c.in_err-think-in-Given.field-0.0 = search rules in
+    starves_turn t _ _ _ c.args.number c.from_residual.result c.in_err-think-in-Given.field-0.0 c.args.self.now c.think.new.self c.args.replies.now store store handed
+    (none_tried _ (t.status store)) same (starves_alike t c.args.number c.args.self.now c.think.new.self c.args.replies.now store store c.in_err-think-in-Given.ensures.err same.status c.requires.none)
 
 pub returns-in-Ask : goal.returns-in-Ask
 returns-in-Ask g c inst found =

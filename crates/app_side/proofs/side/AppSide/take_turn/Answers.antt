@@ -53,19 +53,21 @@ returns-in-Err-clause-turn g c =
     let old_store = c.args.store.now in
     let new_store = c.advance.new.store in
     let want = c.in-Err.ensures.want in
-    let alike = c.in-Err.ensures.starves.alike OUT_OF_MEMORY Tee in
-    let machine : machine_of new ≡ (after_starved_turn (machine_of side) i).machine = c.tear_down.ensures.machine ∙ ap (λ (s : Stepped g.row.A.Denot). s.machine) alike in
-    let replies : c.tear_down.new.replies ≡ (after_starved_turn (machine_of side) i).replies = c.tear_down.ensures.replies ∙ ap (λ (s : Stepped g.row.A.Denot). s.replies) alike in
+    let starves = c.in-Err.ensures.starves in
+    let machine : t.has_model old_store → machine_of new ≡ (after_starved_turn (machine_of side) i).machine = λ there.
+    c.tear_down.ensures.machine ∙ ap (λ (s : Stepped g.row.A.Denot). s.machine) (starves.alike there c.requires.loss OUT_OF_MEMORY Tee) in
+    let replies : t.has_model old_store → c.tear_down.new.replies ≡ (after_starved_turn (machine_of side) i).replies = λ there.
+    c.tear_down.ensures.replies ∙ ap (λ (s : Stepped g.row.A.Denot). s.replies) (starves.alike there c.requires.loss OUT_OF_MEMORY Tee) in
     record {
-      step = λ there m stands kept. step_stands side new (λ (x : Machine g.row.A.Denot). after_starved_turn x i) (λ s d x. refl) machine m stands;
+      step = λ there m stands kept. step_stands side new (λ (x : Machine g.row.A.Denot). after_starved_turn x i) (λ s d x. refl) (machine there) m stands;
       store = λ there m stands kept. kept ∙ ap (λ k. k.store) (sym (want.contents there));
-      told = λ there m stands kept. replies ∙ step_replies side (λ (x : Machine g.row.A.Denot). after_starved_turn x i) (λ s d x. refl) m stands;
+      told = λ there m stands kept. replies there ∙ step_replies side (λ (x : Machine g.row.A.Denot). after_starved_turn x i) (λ s d x. refl) m stands;
       stands = λ there m stands kept. subst (λ (x : Machine g.row.A.Denot). is_some (find (is_number i) x.instances) ≡ true) (sym stands.parts) c.in-Err.ensures.there;
       change = λ m stands. tt;
       status = want.status;
       damage = tt;
       honest = λ h. (want.honest h, tt);
-      lost = ap (λ (m : Machine g.row.A.Denot). m.lost) machine ∙ c.requires.loss ∙ sym want.status.cause;
+      lost = ap (λ (m : Machine g.row.A.Denot). m.lost) c.tear_down.ensures.machine ∙ starves.lost c.requires.loss;
       starved = want;
       keeps = want.keeps;
       crash = λ honest just m stands kept. starving_crash t _ old_store new_store (want.contents (g.met.T.AppStore.honest_model old_store honest)) (want.crash honest just);
