@@ -49,6 +49,10 @@ impl Code {
 
     pub const MAC_INVALID: Code = Code(0xFFFF_3071);
 
+    pub const TIME_NOT_SET: Code = Code(0xFFFF_5000);
+
+    pub const TIME_NEEDS_RESET: Code = Code(0xFFFF_5001);
+
     pub const CORRUPT_OBJECT: Code = Code(0xF010_0001);
 
     pub const STORAGE_NOT_AVAILABLE: Code = Code(0xF010_0003);

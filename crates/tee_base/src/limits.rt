@@ -50,6 +50,8 @@ pub const MAX_FILL_BYTES: u32 = 268_435_456;
 pub const MAX_CALL_TURNS: u32 = 10_000_000;
 /// Turns of one turn line.
 pub const MAX_LINE_TURNS: u32 = 1_000_000;
+/// Ticks of one tick line.
+pub const MAX_LINE_TICKS: u32 = 1_000_000;
 /// Entries of one application's log.
 pub const MAX_LOG_ENTRIES: usize = 262_144;
 /// Parameter bytes of one application's log.

@@ -1,8 +1,8 @@
 -- A clock of ticks, each a millisecond (TEE Internal Core API 1.3, chapter 7).
-use Rattle.std.specs.Prelude.{ℕ, ◌<◌, ◌≤◌, ◌+◌, ◌-◌, ◌*◌, ◌/◌, ◌%◌, ◌^◌, nat_lt, Option, None, Some, Result, Ok, Err, if◌then◌else◌}
+use Rattle.std.specs.Prelude.{ℕ, ◌<◌, ◌≤◌, ◌+◌, ◌-◌, ◌*◌, ◌/◌, ◌%◌, ◌^◌, ◌==◌, nat_le, nat_lt, Bool, false, Option, None, Some, Result, Ok, Err, if◌then◌else◌}
 use Rattle.ticks_time.specs.declared.clock.OwnTime.{OwnTime}
 use Rattle.ticks_time.specs.declared.clock.OwnTime.TheVariants.{Never, Set, Gone}
-use Rattle.ticks_time.specs.declared.time.TheConstants.{MILLIS}
+use Rattle.ticks_time.specs.declared.time.TheConstants.{FOREVER, MILLIS}
 use Rattle.ticks_time.specs.declared.time.Time.{Time}
 use Rattle.ticks_time.specs.declared.time.TimeAnswer.{TimeAnswer}
 use Rattle.ticks_time.specs.declared.time.TimeAnswer.TheVariants.{NotSet, NeedsReset, Overflow}
@@ -30,10 +30,14 @@ pub record IsClock (clock : Ticking) : Type 0 where
 abbrev pub with_ticks : Ticking → ℕ → Ticking
 with_ticks clock ticks = record clock { ticks = clock.ticks + ticks }
 
+-- the number of ticks at which a wait of so many ends that begins now; none for one that has no end (section 7.2.2)
+abbrev pub deadline_of : Ticking → ℕ → Option ℕ
+deadline_of clock ticks = if ticks == FOREVER then None else Some (clock.ticks + ticks)
+
 -- there is a deadline, and the clock has come to it
-abbrev pub IsDue : Ticking → Option ℕ → Type 0
-IsDue clock (Some deadline) = deadline ≤ clock.ticks
-IsDue clock None = ⊥
+abbrev pub is_due : Ticking → Option ℕ → Bool
+is_due clock None = false
+is_due clock (Some deadline) = nat_le deadline clock.ticks
 
 -- how many milliseconds a time has in all
 abbrev pub millis_in : Time → ℕ

@@ -1,8 +1,8 @@
 //! The clock.
 
-ghost use Rattle.std.specs.Prelude.{◌≡◌, ◌<◌, ◌+◌, ◌^◌, ◌↔◌, None, IfSome, IsTrue};
+ghost use Rattle.std.specs.Prelude.{◌≡◌, ◌<◌, ◌+◌, ◌^◌, ◌↔◌, IsTrue};
 ghost use Rattle.ticks_time.specs.Clock as clocks;
-ghost use Rattle.ticks_time.specs.Clock.{IsClock, IsDue, after_restart, new_clock, own_time, system_time, with_own, with_ticks};
+ghost use Rattle.ticks_time.specs.Clock.{IsClock, after_restart, deadline_of, is_due, new_clock, own_time, system_time, with_own, with_ticks};
 
 use crate::time::{FOREVER, MILLIS, Time, TimeAnswer};
 use std::marker::Model;
@@ -54,6 +54,13 @@ impl Clock {
         let _ = &self.ticks;
     }
 
+    /// Whether there may be so many more ticks.
+    pub fn may_tick(&self, ticks: u32) -> bool
+        ensures { IsTrue result ↔ (self.now.ticks + ticks < 2 ^ 63) }
+    {
+        self.ticks + u64::from(ticks) < 1 << 63
+    }
+
     /// So many more ticks.
     pub fn tick(&mut self, ticks: u32)
         requires { self.old.ticks + ticks < 2 ^ 63 }
@@ -64,8 +71,7 @@ impl Clock {
 
     /// The number of ticks at which a wait of so many ends, which is None exactly for `FOREVER`.
     pub fn deadline(&self, ticks: u32) -> Option<u64>
-        ensures forever { (result ≡ None) ↔ (ticks ≡ FOREVER) }
-        ensures end { IfSome result (λ deadline. deadline ≡ self.now.ticks + ticks) }
+        ensures { result ≡ deadline_of self.now ticks }
     {
         if ticks == FOREVER {
             return None;
@@ -75,7 +81,7 @@ impl Clock {
 
     /// Whether there is a deadline, and the clock has come to it.
     pub fn due(&self, deadline: Option<u64>) -> bool
-        ensures { IsTrue result ↔ IsDue self.now deadline }
+        ensures { result ≡ is_due self.now deadline }
     {
         deadline.is_some_and(|end| end <= self.ticks)
     }
