@@ -162,13 +162,13 @@ Params-sync : IsSync Params.the_row
 Params-sync = search (Params-field-sync, sendable) depth 60
 
 Call-field : IsSend Call.the_field.row
-Call-field = search (Login-field, Params-field, sendable) depth 60 fits 20000
+Call-field = search (Login-field, Params-field, Bytes-field, sendable) depth 60 fits 20000
 
 Call-send : IsSend Call.the_row
 Call-send = search (Call-field, sendable) depth 60
 
 pub Call-field-sync : IsSync Call.the_field.row
-Call-field-sync = search (Login-field-sync, Params-field-sync, sendable) depth 60 fits 20000
+Call-field-sync = search (Login-field-sync, Params-field-sync, Bytes-field-sync, sendable) depth 60 fits 20000
 
 Call-sync : IsSync Call.the_row
 Call-sync = search (Call-field-sync, sendable) depth 60
