@@ -72,9 +72,18 @@ fn parameters_lie_after_the_block(rt: HostRuntime) -> Result<(), Fail> {
         None => false,
     };
     assert!(rt; right);
-    let words = [1, 2, 3, 4, BLOCK + 0x20, 3, BUFFER, 5];
-    for (index, word) in (0..8_u32).zip(words) {
-        assert!(rt; app.machine.memory.word(BLOCK + 4 * index) == Some(word));
+    let words = [
+        (BLOCK, 1),
+        (BLOCK + 4, 2),
+        (BLOCK + 8, 3),
+        (BLOCK + 12, 4),
+        (BLOCK + 16, BLOCK + 0x20),
+        (BLOCK + 20, 3),
+        (BLOCK + 24, BUFFER),
+        (BLOCK + 28, 5),
+    ];
+    for (address, word) in words {
+        assert!(rt; app.machine.memory.word(address) == Some(word));
     }
     assert!(rt; app.machine.memory.slice(BLOCK + 0x20, 3) == Some(b"abc".as_slice()));
     // Invocation, session 1, command 9, types by four bits each, and the block.
