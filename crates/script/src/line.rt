@@ -29,6 +29,8 @@ pub enum Line {
     Fuse(u32),
     /// The board loses power and comes back. The number picks what it keeps.
     Power(u64),
+    /// So many ticks pass.
+    Tick(u32),
 }
 
 /// What a line of the text means.
