@@ -5,7 +5,7 @@ use app_api::Call;
 /// A line of a script.
 #[derive(Debug, Drop)]
 pub enum Line {
-    /// A client's call. Without `post` its instance gets turns until it is answered.
+    /// A client's call. Without `post` its instance gets turns until it is answered, or the instance waits.
     Call {
         app: u8,
         client: u8,
