@@ -1,13 +1,13 @@
 //! The calls of a running application, each of them a step of every machine that the value represents.
 
 ghost use Rattle.tee_base.specs.declared.limits.TheConstants.{MAX_CLIENTS, MAX_NUMBER};
-ghost use Rattle.std.specs.Prelude.{◌≡◌, ◌<◌, ◌^◌, ◌+◌, ◌-◌, [], IfOk, OnErr, false, is_some, true};
+ghost use Rattle.std.specs.Prelude.{◌≡◌, ◌<◌, ◌^◌, ◌+◌, ◌-◌, ◌↔◌, [], IfOk, IsTrue, OnErr, false, is_some, true};
 ghost use Rattle.store_api.specs.Stores.{Store};
 ghost use Rattle.object_asks.specs.Serving.{TriesOnce};
 ghost use Rattle.alone.specs.Laws.{StorageStays, live};
 ghost use Rattle.alone.specs.Machine.{Machine, start};
-ghost use Rattle.alone.specs.Step.{after_call, after_cancellation, is_answered, is_changing, is_enabled, step, torn_down, Cancelled, Lost, Restarted, Starved};
-ghost use Rattle.app_side.specs.Represents.{boot_of, event_of, has_doubt, is_lost, turns_of, Represents};
+ghost use Rattle.alone.specs.Step.{after_call, after_cancellation, is_answered, is_changing, is_enabled, step, torn_down, Cancelled, Lost, Restarted, Starved, Ticked};
+ghost use Rattle.app_side.specs.Represents.{boot_of, event_of, has_doubt, is_lost, ticks_in, turns_of, Represents};
 ghost use Rattle.app_side.specs.Serving.{IsTurn};
 ghost use Rattle.app_side.specs.Storeless.{IsStoreless, wants_store};
 
@@ -23,6 +23,7 @@ use shared_mem::Blocks;
 use std::alloc::Global;
 use store_api::AppStore;
 use tee_base::{Code, NoMemory, Origin, limits};
+use ticks_time::Clock;
 
 impl<A: Application> AppSide<A> {
     /// An application that has run nothing, the one of this index among the hosts.
@@ -44,6 +45,7 @@ impl<A: Application> AppSide<A> {
             application,
             seed,
             boot: 0,
+            clock: Clock::new(),
             sessions: Instances::new(host.properties),
             instances: Vec::new(alloc),
             queue: OpQueue::new(alloc),
@@ -248,8 +250,34 @@ impl<A: Application> AppSide<A> {
         self.lost = true;
     }
 
+    /// So many ticks passed. It takes no memory.
+    pub fn tick(&mut self, ticks: u32)
+        // The clock has room for them.
+        requires { ticks_in self.old + ticks < 2 ^ 63 }
+        // The machine's clock has so many ticks more, and all else stays.
+        ensures step { (m : Machine A) → Represents self.old m
+            → Represents self.new (step A.behaviour m (Ticked ticks)).machine }
+        // The storage is lost after it exactly where it was.
+        ensures lost { is_lost self.new ≡ is_lost self.old }
+        // It is no turn.
+        ensures turns { turns_of self.new ≡ turns_of self.old }
+        // It is no restart.
+        ensures boot { boot_of self.new ≡ boot_of self.old }
+    {
+        self.clock.tick(ticks);
+    }
+
+    /// Whether so many ticks more may pass.
+    pub fn may_tick(&self, ticks: u32) -> bool
+        // They may exactly where the clock has room for them.
+        ensures { IsTrue result ↔ (ticks_in self.now + ticks < 2 ^ 63) }
+    {
+        self.clock.may_tick(ticks)
+    }
+
     /// The power came back, with the change in doubt or without it: sessions, instances and unanswered operations are gone
-    /// without a reply, and the storage serves again. Blocks of shared memory stay. It takes no memory.
+    /// without a reply, and the storage serves again. Blocks of shared memory stay, ticks go on, and a time that was set is lost. It
+    /// takes no memory.
     pub fn restart(&mut self, took: bool)
         requires { boot_of self.old < 2 ^ 32 - 1 }
         ensures step { (m : Machine A) → Represents self.old m
@@ -257,6 +285,7 @@ impl<A: Application> AppSide<A> {
         ensures lost { is_lost self.new ≡ false }
     {
         self.boot += 1;
+        self.clock.restart();
         self.sessions.reset();
         self.instances.clear();
         self.queue.forget();
