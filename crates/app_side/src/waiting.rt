@@ -81,8 +81,10 @@ impl<A: Application> AppSide<A> {
 
     /// Whether an ask waits in the instance that may need the store.
     pub fn needs_store(&self, instance: u8) -> bool
+        // It is so exactly where such an ask waits in the machine.
         ensures machine { (m : Machine A) → Represents self.now m
             → result ≡ needs_store m instance }
+        // The value tells it by its own parts.
         ensures own { result ≡ wants_store self.now instance }
     {
         match place_of(self.instances.as_slice(), instance) {
