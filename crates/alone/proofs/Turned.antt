@@ -1,6 +1,7 @@
 -- A turn of an instance leaves what holds of every machine, and brings the instance nearer to having no operation.
 use Rattle.app_api.specs.Behaviours.{Behaviour}
-use Rattle.std.proofs.Common.{ℕ, ◌≡◌, ◌+◌, ◌-◌, ◌*◌, ◌≤◌, ◌<◌, ◌==◌, ◌&&◌, Bool, true, false, not, nat_le, cond, ◌⊎◌, inl, inr, ⊎_elim, List, find, map, Option, None, Some, refl, sym, ap, subst, ◌∙◌, arith}
+use Rattle.std.proofs.Common.{ℕ, ◌≡◌, ◌+◌, ◌-◌, ◌*◌, ◌≤◌, ◌<◌, ◌==◌, ◌&&◌, ◌⊎◌, inl, inr, ⊎_elim, nat_le, Bool, true, false, not, cond, List, find, map}
+use Rattle.std.proofs.Common.{Option, None, Some, refl, sym, ap, subst, ◌∙◌, arith}
 use Rattle.std.proofs.lemmas.Bool.{cond_both, and_parts, leb-false, not-true, both_ways}
 use Rattle.tee_base.specs.declared.limits.TheConstants.{MAX_ASKS}
 use Rattle.app_api.specs.declared.ask.Answer.TheVariants.{Done, Refused}
@@ -30,7 +31,7 @@ use Rattle.alone.specs.Machine.{Machine, is_number, instance_at, put_instance, w
 use Rattle.alone.specs.Places.{places_of, shown_outputs}
 use Rattle.alone.specs.Step.{after_ask, begun_with, after_destroy_begins, first_entry, is_success, masked_again, no_replies, after_return, serve_outcome, start_begun, turn_counted, turned_as}
 use Rattle.alone.specs.Step.{ask_counted, carried_out, turned_at, turned_by, waited, went_on, with_delivery}
-use Rattle.alone.specs.Waiting.{is_waiting, wait_goes, wait_of, waits_at, waits_so}
+use Rattle.alone.specs.Waiting.{wait_goes, wait_of, waits_at, waits_so}
 use Rattle.alone.proofs.Totals.{bit, found_passes}
 use Rattle.alone.proofs.Each.{each_map}
 use Rattle.alone.proofs.Lists.{found_number, find_put}

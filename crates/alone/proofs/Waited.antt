@@ -1,11 +1,11 @@
 -- What a turn makes of a wait, and how the clock goes.
 use Rattle.app_api.specs.Behaviours.{Behaviour}
-use Rattle.std.proofs.Common.{ℕ, ◌≡◌, ◌+◌, nat_le, Bool, true, false, not, ◌&&◌, cond, Option, None, Some, option_map, find, refl, sym, ap, subst, ◌∙◌, arith}
-use Rattle.std.proofs.lemmas.Bool.{and_parts, both_ways, cases_Bool, cond-false, not-true}
+use Rattle.std.proofs.Common.{ℕ, ◌≡◌, ◌+◌, nat_le, Bool, true, false, not, cond, Option, None, Some, option_map, refl, sym, ap, ◌∙◌, arith}
+use Rattle.std.proofs.lemmas.Bool.{and_parts, both_ways, cond-false, not-true}
 use Rattle.app_api.specs.declared.ask.Answer.TheVariants.{Done, Refused}
 use Rattle.app_api.specs.declared.ask.Ask.{Ask}
 use Rattle.app_api.specs.declared.ask.Given.TheVariants as givens
-use Rattle.object_asks.specs.Asks.{Serves, Fails, Damaged, object_resolution, Serving}
+use Rattle.object_asks.specs.Asks.{Serves, Fails, Damaged, object_resolution}
 use Rattle.object_asks.specs.Keys.{generate_resolution}
 use Rattle.tee_base.specs.declared.limits.TheConstants.{MAX_ASKS}
 use Rattle.ticks_time.specs.Clock.{deadline_of, is_due}
@@ -15,12 +15,12 @@ use Rattle.alone.specs.declared.active_entry.Waits.{Waits}
 use Rattle.alone.specs.declared.active_entry.Waits.TheVariants as waits
 use Rattle.alone.specs.Asks.{cancel, flag_for, objects_of}
 use Rattle.alone.specs.Laws.{ticks_of}
-use Rattle.alone.specs.Machine.{Machine, instance_at, is_number, put_instance, with_instance}
+use Rattle.alone.specs.Machine.{Machine, instance_at, with_instance}
 use Rattle.alone.specs.Step.{Event, Called, Cancelled, Turned, TurnLost, Corrupted, Lost, Starved, Restarted, Ticked, Stepped, after_turn, ask_counted, carried_out, no_replies, step}
 use Rattle.alone.specs.Step.{turn_counted, turned_as, turned_at, turned_by, waited, went_on}
 use Rattle.alone.specs.Waiting.{IsOnWait, deadline_in, is_waiting, wait_goes, wait_of, waits_at, waits_in, waits_so, what_waits}
 use Rattle.alone.proofs.Born.{goes_all}
-use Rattle.alone.proofs.Kept.{IsKept, IsKeptAs, cancelled_kept, turned_kept}
+use Rattle.alone.proofs.Kept.{IsKept, cancelled_kept, turned_kept}
 use Rattle.alone.proofs.KeptByCalls.{IsKeptByCalls, called_kept}
 use Rattle.alone.proofs.Lists.{find_put, found_number, put_found}
 
@@ -76,8 +76,9 @@ module _ {A : Type 0} where
     waits_still m i inst r (waits.Until deadline) there running e waits_now =
         let parts = and_parts (not (flag_for m.queue r.op)) (not (is_due m.clock deadline)) waits_now in
         let goes : wait_goes m r.op deadline ≡ r.waits =
-        ap (λ b. cond b (waits.Given (givens.Answer (Refused cancel))) (cond (is_due m.clock deadline) (waits.Given (givens.Answer Done)) (waits.Until deadline))) (not-true (flag_for m.queue r.op) parts.0)
-        ∙ ap (λ b. cond b (waits.Given (givens.Answer Done)) (waits.Until deadline)) (not-true (is_due m.clock deadline) parts.1)
+        cond-false (flag_for m.queue r.op) (waits.Given (givens.Answer (Refused cancel))) (cond (is_due m.clock deadline) (waits.Given (givens.Answer Done)) (waits.Until deadline))
+        (not-true (flag_for m.queue r.op) parts.0)
+        ∙ cond-false (is_due m.clock deadline) (waits.Given (givens.Answer Done)) (waits.Until deadline) (not-true (is_due m.clock deadline) parts.1)
         ∙ sym e in
         let same : Some r ≡ inst.running = sym running in
         ap (λ (w : Waits). no_replies (with_instance m (record inst { running = Some (record { op = r.op; stage = r.stage; waits = w; asks = r.asks; masked = r.masked }) }))) goes
