@@ -15,10 +15,11 @@ use app_api::Application;
 
 /// Whatever the weather: what is written under an application's name is the text of what happens to its machine, where of
 /// another's events it meets a lost turn alone, as a loss of its own storage, and of the board a loss of power, as a restart, and
-/// ticks. Where no turn of another is lost, all of it follows from its host and its index, the seed, its own store, its own lines of
-/// the script and those of losses of power and of ticks, how its own turns go, and which losses of power kept its change in doubt:
-/// the other hosts, their stores, their lines and their turns change none of it. So of two texts that runs wrote to their ends, without a turn that lost
-/// the storage and a starved turn of the application, its lines are equal where these are. It does nothing.
+/// ticks. Where no turn of another is lost, all of it follows from its host and its index, the seed, its own store, its own lines
+/// of the script and those of losses of power and of ticks, how its own turns go, and which losses of power kept its change in
+/// doubt: the other hosts, their stores, their lines and their turns change none of it. So of two texts that runs wrote to their
+/// ends, without a turn that lost the storage and a starved turn of the application, its lines are equal where these are. It does
+/// nothing.
 pub fn applications_are_apart<A: Application>()
     // where no turn of another is lost, its machine meets what its own lines make happen in it alone, power and tick lines among them
     ensures own_events { (hosts : List (Host A)) (seed : List ℕ) (stores : ℕ → Store)
