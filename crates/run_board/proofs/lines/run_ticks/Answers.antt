@@ -1,4 +1,4 @@
-use Rattle.std.proofs.Common.{ap, ap₂, subst, refl}
+use Rattle.std.proofs.Common.{ap₂, refl, subst, sym}
 use Rattle.tee_core.specs.Represents.{boots_of, volume_of}
 use Rattle.run_board.specs.Parts.{point}
 use Rattle.run_board.proofs.Leaves.{stands_leaves}
