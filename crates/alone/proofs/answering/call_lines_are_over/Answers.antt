@@ -1,5 +1,5 @@
-use Rattle.alone.proofs.Answered.{always_answered}
-use Rattle.alone.proofs.answering.call_lines_are_answered.Goals as goal
+use Rattle.alone.proofs.Answered.{always_over}
+use Rattle.alone.proofs.answering.call_lines_are_over.Goals as goal
 
 pub returns : goal.returns
-returns g c = λ host index seed store events marks client call. always_answered g.A.Application.behaviour host index seed store events marks client call
+returns g c = λ host index seed store events marks client call. always_over g.A.Application.behaviour host index seed store events marks client call
