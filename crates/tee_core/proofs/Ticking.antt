@@ -100,7 +100,7 @@ module _ {A : Type 0} (ticks : ℕ) where
 -- ---- the world so many ticks later has the same stores and changes in doubt
 
 module _ {A : Type 0} (behaviour : Behaviour A) (ticks : ℕ) where
-  later : World A → World A
+  abbrev pub later : World A → World A
   later world = after_ticks behaviour world ticks
 
   stores_later : (kept : ℕ → Bool) (r : ℕ) (world : World A) (held : Held) → StoresFrom kept r world held → StoresFrom kept r (later world) held
