@@ -17,11 +17,11 @@ use Rattle.alone.specs.Marks.{Marks, event_at}
 use Rattle.alone.specs.Step.{Event, Called, Cancelled, Turned, TurnLost, Corrupted, Lost, Starved, Restarted, Ticked, step, belongs_to, after_call, is_enabled, turn_counted, is_answered, is_over}
 use Rattle.alone.specs.Runs.{most_turns, machine_after, turns_until}
 use Rattle.alone.specs.Answering.{CallIsOver, OperationsAreFew}
+use Rattle.alone.specs.Waiting.{is_waiting}
 use Rattle.alone.proofs.Totals.{bit, total_both, total_count, total_le, total_ones}
-use Rattle.alone.proofs.Each.{each_both}
+use Rattle.alone.proofs.Each.{each_both, or_later}
 use Rattle.alone.proofs.Sound.{IsSoundMachine, nothing_sound, start_sound}
 use Rattle.alone.proofs.Dropped.{cancels}
-use Rattle.alone.specs.Waiting.{is_waiting}
 use Rattle.alone.proofs.Ended.{HasTurned, turned_nearer, fails}
 use Rattle.alone.proofs.Called.{IsOf, takes}
 use Rattle.alone.proofs.Measure.{measure, measure_most, measure_none}
@@ -80,10 +80,6 @@ module _ {A : Type 0} where
       ∙ ap (λ b. b && nat_lt op m.queue.next && true) (lt-ltb 0 op some)
       ∙ ap (λ b. b && true) (lt-ltb op m.queue.next below)
 
-either : (a b : Bool) → b ≡ true → (a || b) ≡ true
-either true b e = refl
-either false b e = e
-
 enough : 9830599 ≤ most_turns
 unfolding most_turns
 enough = omega arith
@@ -125,7 +121,7 @@ module _ {A : Type 0} (behaviour : Behaviour A) where
       (cases_lt 0 (measure i m.queue m.instances)) in
       let rest : is_over (machine_after behaviour z (turns_until behaviour marks k z i op)) i op ≡ true = ⊎_elim
       (λ (waiting : is_waiting z i ≡ true).
-      let over : is_over z i op ≡ true = either (is_answered z op) (is_waiting z i) waiting in
+      let over : is_over z i op ≡ true = or_later (is_answered z op) (is_waiting z i) waiting in
       subst (λ (es : List Event). is_over (machine_after behaviour z es) i op ≡ true) (sym (none_more marks k z op i over)) over)
       (λ (calm : is_waiting z i ≡ false). within marks k z op i now.sound positive
       (omega (arith, below, now.next)) (now.owner op i owned) (omega (arith, now.less some calm, le)))

@@ -1,10 +1,9 @@
 -- A turn of an instance leaves what holds of every machine, and brings the instance nearer to having no operation.
 use Rattle.app_api.specs.Behaviours.{Behaviour}
-use Rattle.std.proofs.Common.{ℕ, ◌≡◌, ◌+◌, ◌-◌, ◌*◌, ◌≤◌, ◌<◌, ◌==◌, ◌&&◌, ◌⊎◌, inl, inr, ⊎_elim, nat_le, Bool, true, false, not, cond, List, find, map}
+use Rattle.std.proofs.Common.{ℕ, ◌≡◌, ◌+◌, ◌-◌, ◌*◌, ◌≤◌, ◌<◌, ◌==◌, ◌&&◌, nat_le, Bool, true, false, not, List, find, map}
 use Rattle.std.proofs.Common.{Option, None, Some, refl, sym, ap, subst, ◌∙◌, arith}
 use Rattle.std.proofs.lemmas.Bool.{cond_both, and_parts, leb-false, not-true, both_ways}
 use Rattle.tee_base.specs.declared.limits.TheConstants.{MAX_ASKS}
-use Rattle.app_api.specs.declared.ask.Answer.TheVariants.{Done, Refused}
 use Rattle.app_api.specs.declared.ask.Ask.{Ask}
 use Rattle.app_api.specs.declared.ask.Given.TheVariants as givens
 use Rattle.app_api.specs.declared.call.Call.{Call}
@@ -25,7 +24,7 @@ use Rattle.alone.specs.declared.active_entry.EntryPoint.{EntryPoint}
 use Rattle.alone.specs.declared.active_entry.EntryPoint.TheVariants as stages
 use Rattle.alone.specs.declared.active_entry.Waits.{Waits}
 use Rattle.alone.specs.declared.active_entry.Waits.TheVariants as waits
-use Rattle.alone.specs.Asks.{cancel, flag_for, resolution_after, mask_after, mask_noted}
+use Rattle.alone.specs.Asks.{flag_for, resolution_after, mask_after, mask_noted}
 use Rattle.alone.specs.Blocks.{given_params}
 use Rattle.alone.specs.Machine.{Machine, is_number, instance_at, put_instance, with_instance}
 use Rattle.alone.specs.Places.{places_of, shown_outputs}
@@ -111,21 +110,13 @@ module _ {A : Type 0} where
 
   -- ---- an entry waits
 
-  -- where it waits on, its deadline hasn't come, and no request is read
-  abbrev WaitsOn : Machine A → ActiveEntry → Option ℕ → Type 0
-  WaitsOn m s deadline = (wait_goes m s.op deadline ≡ waits.Until deadline) × (flag_for m.queue s.op ≡ false) × (is_due m.clock deadline ≡ false)
-
-  waits_or_goes : (m : Machine A) (s : ActiveEntry) (deadline : Option ℕ) → ((k : ℕ) → turns_left (wait_goes m s.op deadline) k ≡ k + 2) ⊎ WaitsOn m s deadline
-  waits_or_goes m s deadline = by (flag_for m.queue s.op) (is_due m.clock deadline) refl refl
-    where
-      goal : Bool → Bool → Type 0
-      goal flag due = (let w : Waits = cond flag (waits.Given (givens.Answer (Refused cancel))) (cond due (waits.Given (givens.Answer Done)) (waits.Until deadline)) in
-          ((k : ℕ) → turns_left w k ≡ k + 2) ⊎ ((w ≡ waits.Until deadline) × (flag_for m.queue s.op ≡ false) × (is_due m.clock deadline ≡ false)))
-
-      by : (flag due : Bool) → flag_for m.queue s.op ≡ flag → is_due m.clock deadline ≡ due → goal flag due
-      by true due f d = inl (λ k. refl)
-      by false true f d = inl (λ k. refl)
-      by false false f d = inr (refl, f, d)
+  -- where it doesn't wait on, it has its answer
+  answers_wait : (m : Machine A) (r : ActiveEntry) (deadline : Option ℕ) (k : ℕ) → waits_so m r (wait_goes m r.op deadline) ≡ false → turns_left (wait_goes m r.op deadline) k ≡ k + 2
+  answers_wait m r deadline k =
+      let Calm : Waits → Type 0 = λ w. waits_so m r w ≡ false → turns_left w k ≡ k + 2 in
+      cond_both (flag_for m.queue r.op) _ _ Calm (λ _ _. refl)
+      (λ flag. cond_both (is_due m.clock deadline) _ _ Calm (λ _ _. refl)
+      (λ due calm. absurd (both_ways _ calm (ap (λ b. not b && not (is_due m.clock deadline)) flag ∙ ap not due))))
 
   -- a turn on a wait: its entry goes on, or its instance waits
   waits_turn : (m : Machine A) (inst : Instance A) (r s : ActiveEntry) (deadline : Option ℕ) → IsSoundMachine m → find (is_number inst.number) m.instances ≡ Some inst
@@ -141,11 +132,7 @@ module _ {A : Type 0} where
         sound = stays_sound m inst new r t h found refl running refl op stage;
         next = refl;
         owner = λ op j owned. owned;
-        less = λ some calm. ⊎_elim
-            (λ (goes : (k : ℕ) → turns_left (wait_goes m s.op deadline) k ≡ k + 2). omega (arith, before, after, goes (2 * (65536 - s.asks)), fewer, ap turns_behind stage))
-            (λ (on : WaitsOn m s deadline). absurd (both_ways _ calm
-            (ap (waits_at m) there ∙ ap (waits_so m s) on.0 ∙ ap (λ b. not b && not (is_due m.clock deadline)) on.1 ∙ ap not on.2)))
-            (waits_or_goes m s deadline);
+        less = λ some calm. omega (arith, before, after, answers_wait m t deadline (2 * (65536 - s.asks)) (ap (waits_at m) (sym there) ∙ calm), fewer, ap turns_behind stage);
       }
 
   -- ---- an operation begins, if one waits
