@@ -19,7 +19,8 @@ use Rattle.shared_parts.specs.StorageParts.{IsMarked}
 use Rattle.shared_parts.specs.declared.recorded.Posted.{Posted}
 use Rattle.shared_parts.specs.declared.recorded.SharedAnswer.{SharedAnswer}
 use Rattle.shared_parts.specs.declared.recorded.SharedAnswer.TheVariants as answers
-use Rattle.shared_tee.specs.Passes.{FindsNothing, FindsOwnCellTaken, GoesOnBy, IsPassOf, IsRefused, IsTurnRefused, Makes, MakesOneTurn, MissesOwnCell, OthersWentOn, PassView, Places, Posts, TellsWait, log_of, origin_in}
+use Rattle.shared_tee.specs.Passes.{FindsOwnCellTaken, TellsWait}
+use Rattle.shared_tee.specs.Passes.{FindsNothing, GoesOnBy, IsPassOf, IsRefused, IsTurnRefused, Makes, MakesOneTurn, MissesOwnCell, OthersWentOn, PassView, Places, Posts, log_of, origin_in}
 use Rattle.race.proofs.IdleLemmas.{no_idle, stands}
 use Rattle.race.proofs.FollowLemmas.{all_with, event_is_turn, grows_by_event, grows_by_others, grows_then, turn_placed, turns_more, unreplied_before}
 use Rattle.race.specs.Following.{Grows, IsNoIdleTurn, Placed, TurnStands}

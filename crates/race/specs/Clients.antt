@@ -19,7 +19,8 @@ use Rattle.shared_tee.specs.declared.names.TheConstants.{STORAGE_CELL}
 use Rattle.script.specs.declared.line.Line.{Line}
 use Rattle.race.specs.declared.client.Stopped.{Stopped}
 use Rattle.race.specs.declared.client.Stopped.TheVariants as stops
-use Rattle.race.specs.Following.{AreTurns, Follows, FollowsCut, FollowsFirst, FollowsPart, Grows, IsCut, IsMade, IsNoIdleTurn, Placed, TurnStands, instance_at, is_replied, is_turn_of, late_for, number_at}
+use Rattle.race.specs.Following.{AreTurns, Follows, FollowsCut, FollowsFirst, FollowsPart, Grows, IsCut, IsMade, IsNoIdleTurn, Placed, TurnStands}
+use Rattle.race.specs.Following.{instance_at, is_replied, is_turn_of, late_for, number_at}
 use Rattle.race.specs.Wishes.{Wish, bytes_of_wish, wishes_of}
 
 module _ {V A : Type 0} where

@@ -31,7 +31,8 @@ use Rattle.shared_parts.specs.declared.missed.Missed.{Missed}
 use Rattle.shared_parts.specs.declared.recorded.Posted.{Posted}
 use Rattle.shared_parts.specs.declared.recorded.SharedAnswer.{SharedAnswer}
 use Rattle.shared_parts.specs.declared.recorded.SharedAnswer.TheVariants as answers
-use Rattle.shared_tee.specs.Passes.{FindsNothing, GoesOn, IsPass, IsPassOf, IsRefused, IsTurnRefused, Makes, MakesOneTurn, MakesNothing, MissesOwnCell, OthersWentOn, PassView, Places, Posts, TellsWait}
+use Rattle.shared_tee.specs.Passes.{FindsNothing, GoesOn, IsPass, IsPassOf, IsRefused, IsTurnRefused, Makes, MakesOneTurn, MakesNothing, MissesOwnCell, OthersWentOn, PassView, Places, Posts}
+use Rattle.shared_tee.specs.Passes.{TellsWait}
 use Rattle.shared_tee.specs.declared.names.TheConstants.{STORAGE_CELL}
 use Rattle.shared_tee.specs.Passes.{log_in, log_of, origin_in, own_of}
 
@@ -470,7 +471,8 @@ module _ {V A : Type 0} (K : VolumeKeeper V) (behaviour : Behaviour A) (p : Pass
   abbrev looked : PassView V A
   looked = record { app = p.app; client = p.client; calls = p.calls + 1; cell = id; seat = w }
 
-  pub tells_wait : (waits : Bool) (instance : ℕ) → (IsMarked K h.origin.opened → waits ≡ is_waiting (machine_by behaviour h.origin.machine h.log) instance) → TellsWait K behaviour waits instance looked
+  pub tells_wait : (waits : Bool) (instance : ℕ) → (IsMarked K h.origin.opened → waits ≡ is_waiting (machine_by behaviour h.origin.machine h.log) instance)
+      → TellsWait K behaviour waits instance looked
   tells_wait waits instance told origin is marked =
       let log : log_of looked ≡ h.log = log_then K behaviour p h h (missed_by h.misses p.client) g id same_cell u w turn taken is_given in
       let first : origin_in w.trail ≡ Some h.origin = origin_then K behaviour p h h (missed_by h.misses p.client) g id same_cell u w turn taken is_given in

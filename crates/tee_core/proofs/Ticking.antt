@@ -1,6 +1,7 @@
 -- Ticks that pass for applications one after the other.
 use Rattle.app_api.specs.Behaviours.{Behaviour}
-use Rattle.std.proofs.Common.{◌≡◌, ◌<◌, ◌≤◌, ◌+◌, ◌^◌, ℕ, zero, suc, Bool, false, List, [], ◌∷◌, Option, None, Some, get_or, is_some, length, map, set, refl, sym, subst, ◌∙◌, ap, inl, inr, ⊎_elim, arith}
+use Rattle.std.proofs.Common.{◌≡◌, ◌<◌, ◌≤◌, ◌+◌, ◌^◌, ℕ, zero, suc, Bool, false, List, [], ◌∷◌, Option, None, Some}
+use Rattle.std.proofs.Common.{get_or, is_some, length, map, set, refl, sym, subst, ◌∙◌, ap, inl, inr, ⊎_elim, arith}
 use Rattle.std.specs.Prelude.{◌⊎◌, slice_get}
 use Rattle.store_api.specs.Volumes.{Held, VolumeKeeper}
 use Rattle.alone.specs.Machine.{Machine}
@@ -100,7 +101,7 @@ module _ {A : Type 0} (ticks : ℕ) where
 -- ---- the world so many ticks later has the same stores and changes in doubt
 
 module _ {A : Type 0} (behaviour : Behaviour A) (ticks : ℕ) where
-  later : World A → World A
+  abbrev pub later : World A → World A
   later world = after_ticks behaviour world ticks
 
   stores_later : (kept : ℕ → Bool) (r : ℕ) (world : World A) (held : Held) → StoresFrom kept r world held → StoresFrom kept r (later world) held
@@ -133,8 +134,8 @@ module _ {A : Type 0} (behaviour : Behaviour A) (ticks : ℕ) where
       (λ (doubt : (owner : ℕ) × HasDoubt owner world × (sequence < held.sequence) × HoldsStores (kept_of owner) world held).
       inr (doubt.0, doubt_later doubt.0 world doubt.1, doubt.2, stores_later (kept_of doubt.0) 0 world held doubt.3)) left
 
-  pub stand_ticked : {V : Type 0} (K : VolumeKeeper V) (sides left : List (AppSide A)) (volume : V) (world : World A) → StandFor K sides volume world → AreSides left (after_ticks behaviour world ticks)
-      → StandFor K left volume (after_ticks behaviour world ticks)
+  pub stand_ticked : {V : Type 0} (K : VolumeKeeper V) (sides left : List (AppSide A)) (volume : V) (world : World A) → StandFor K sides volume world
+      → AreSides left (after_ticks behaviour world ticks) → StandFor K left volume (after_ticks behaviour world ticks)
   stand_ticked K sides left volume world stands are = record {
     honest = stands.honest;
     sides_are = are;

@@ -99,7 +99,12 @@ pub(crate) fn restart_all<A: Application>(
 pub(crate) fn may_tick_all<A: Application>(sides: &[AppSide<A>], ticks: u32) -> bool
     ensures { IsTrue result ↔ MayTick ticks sides.now }
 {
-    sides.iter().all(|side| side.may_tick(ticks))
+    for side in sides {
+        if !side.may_tick(ticks) {
+            return false;
+        }
+    }
+    true
 }
 
 /// So many ticks pass for all of them.
