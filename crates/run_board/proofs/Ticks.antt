@@ -1,6 +1,6 @@
 -- Ticks in a run: nothing is written, and the board isn't called.
 use Rattle.app_api.specs.Behaviours.{Behaviour}
-use Rattle.std.proofs.Common.{ℕ, ◌≡◌, List, [], ◌∷◌, Result, Ok, Err, refl, sym, subst, arith}
+use Rattle.std.proofs.Common.{ℕ, ◌≡◌, List, [], ◌∷◌, Option, Ok, Err, ap, ap₂, refl, sym, subst, arith}
 use Rattle.std.proofs.KnownBytes.{Appends-nil}
 use Rattle.board.specs.Moment.{Moment, View}
 use Rattle.epoch.specs.Forms.{Form}
@@ -8,13 +8,18 @@ use Rattle.script.specs.declared.line.Line.TheVariants as lines
 use Rattle.tee_core.specs.World.{World, after_ticks}
 use Rattle.run_board.specs.Boards.{GoesAlong, HasOrders, LeavesStores, RunsAlong, WritesLosses}
 use Rattle.run_board.specs.Layers.{MakesEvents, Place}
-use Rattle.run_board.specs.Parts.{IsRunOf, Point, StopsIn}
+use Rattle.run_board.specs.Parts.{IsRunOf, Point, point}
 use Rattle.run_board.specs.Transcript.{Ticks, line_events}
 use Rattle.run_board.specs.declared.lines.Stop.TheVariants as stops
 use Rattle.run_board.proofs.Along.{stops_first}
 use Rattle.run_board.proofs.Layers.{never_faulty, never_stopped}
 use Rattle.run_board.proofs.Losses.{losses_none}
 use Rattle.run_board.proofs.Parts.{no_orders, span_none}
+
+-- what leaves the count of power cuts and the volume leaves the point of a run
+pub same_point : {V : Type 0} (view_of : V → View) (written : Option (List ℕ)) (boots boots_then : ℕ) (volume volume_then : V) → boots_then ≡ boots → volume_then ≡ volume
+    → point boots_then (view_of volume_then) written ≡ point boots (view_of volume) written
+same_point view_of written boots boots_then volume volume_then count same = ap₂ (λ (n : ℕ) (v : View). point n v written) count (ap view_of same)
 
 module _ {A : Type 0} (behaviour : Behaviour A) (form : Form) where
   along_ticked : (key : List ℕ) (w : World A) (ticks : ℕ) (m : Moment) → GoesAlong behaviour form key m 0 w (Ticks ticks ∷ []) [] m

@@ -1,8 +1,7 @@
-use Rattle.std.proofs.Common.{ap₂, refl, subst, sym}
-use Rattle.tee_core.specs.Represents.{boots_of, volume_of}
-use Rattle.run_board.specs.Parts.{point}
+use Rattle.std.proofs.Common.{refl, subst, sym}
+use Rattle.tee_core.specs.Represents.{volume_of}
 use Rattle.run_board.proofs.Leaves.{stands_leaves}
-use Rattle.run_board.proofs.Ticks.{ticks_passed, ticks_refused}
+use Rattle.run_board.proofs.Ticks.{same_point, ticks_passed, ticks_refused}
 use Rattle.run_board.proofs.lines.run_ticks.Goals as goal
 
 -- ---- no more ticks may pass
@@ -17,11 +16,8 @@ returns-then-not-may_tick g c =
 
 pub returns : goal.returns
 returns g c =
-    let form = g.V.BoardVolume.form in
-    let written = g.W.Sink.written c.args.sink.now in
-    let view = λ v. g.B.Board.view (g.V.BoardVolume.board_of v) in
-    ticks_passed g.A.Application.behaviour form c.args.names.now c.args.ticks _ _ _
-    (ap₂ (λ n v. point n (view v) written) c.tick.ensures.boots c.tick.ensures.volume)
+    ticks_passed g.A.Application.behaviour g.V.BoardVolume.form c.args.names.now c.args.ticks _ _ _
+    (same_point (λ v. g.B.Board.view (g.V.BoardVolume.board_of v)) (g.W.Sink.written c.args.sink.now) _ _ _ _ c.tick.ensures.boots c.tick.ensures.volume)
     c.tick.ensures.kept.apps refl
     (λ honest. subst (λ v. g.B.Board.honest (g.V.BoardVolume.board_of v)) (sym c.tick.ensures.volume) honest)
     (λ w stands. c.tick.ensures.world w stands)
