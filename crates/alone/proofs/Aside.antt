@@ -29,6 +29,7 @@ module _ {A : Type 0} (P : ℕ → ℕ → Option Store → Type 0) where
     delivered = λ m op os same. same;
     objects = λ m i ask same. goes_all (λ _. Rests m) (object_resolution (objects_of m) i ask) (λ _. same);
     crypto = λ m s stream same. same;
+    timed = λ m time same. same;
     made = λ m i object bits random same. goes_all (λ _. Rests m) (generate_resolution (objects_of m) i object bits random) (λ _. same);
   }
 

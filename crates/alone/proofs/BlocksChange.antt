@@ -7,8 +7,9 @@ use Rattle.std.proofs.lemmas.Bool.{cond_both}
 use Rattle.std.proofs.lemmas.List.{length-append}
 use Rattle.tee_base.specs.declared.codes.Code.{Code}
 use Rattle.tee_base.specs.declared.codes.Origin.TheVariants.{Api, App, Tee}
-use Rattle.tee_base.specs.declared.codes.TheConstants.Code.{BAD_PARAMETERS, BAD_STATE, BUSY, EXCESS_DATA, ITEM_NOT_FOUND, SUCCESS}
-use Rattle.tee_base.specs.declared.limits.TheConstants.{MAX_ASK_BYTES}
+use Rattle.tee_base.specs.declared.codes.TheConstants.Code.{BAD_PARAMETERS, BAD_STATE, BUSY, EXCESS_DATA, ITEM_NOT_FOUND, SUCCESS, TARGET_DEAD}
+use Rattle.tee_base.specs.declared.limits.TheConstants.{MAX_ASKS, MAX_ASK_BYTES}
+use Rattle.app_api.specs.declared.ask.Ask.{Ask}
 use Rattle.app_api.specs.declared.call.Call.{Call}
 use Rattle.app_api.specs.declared.call.Call.TheVariants as calls
 use Rattle.app_api.specs.declared.login.Login.{Login}
@@ -34,6 +35,7 @@ use Rattle.shared_mem.specs.declared.block.Block.{Block}
 use Rattle.shared_mem.specs.Blocks.{block_at, check_of, fill_in, is_at, share_in, show_of, takes_bytes, with_bytes}
 use Rattle.shared_mem.specs.Blocks as shared
 use Rattle.shared_mem.specs.History.{Happening, Shared, Written, GivenUp, behind}
+use Rattle.ticks_time.specs.Clock.{deadline_of}
 use Rattle.alone.specs.declared.active_entry.Instance.{Instance}
 use Rattle.alone.specs.declared.active_entry.ActiveEntry.{ActiveEntry}
 use Rattle.alone.specs.declared.active_entry.EntryPoint.{EntryPoint}
@@ -48,12 +50,13 @@ use Rattle.alone.specs.Blocks.{delivered, delivered_for, given_params, reference
 use Rattle.alone.specs.Machine.{Machine, instance_at, with_instance}
 use Rattle.alone.specs.Places.{shown_outputs}
 use Rattle.alone.specs.Sharing.{AreDeliveries, ChangesBlocks, IsDeliveryOf, IsOfCall, all_after}
-use Rattle.alone.specs.Step.{Event, Called, Cancelled, Turned, TurnLost, Corrupted, Lost, Starved, Restarted, Stepped, after_answer, answered_at_once, after_ask, after_call, after_cancellation}
-use Rattle.alone.specs.Step.{after_destroy_begins, after_dropped_open, after_return, after_session, begun_with, block_shown, called_invoke, called_open, cancelled_by}
-use Rattle.alone.specs.Step.{closed_at, closed_in, facts_of_label}
+use Rattle.alone.specs.Step.{Event, Called, Cancelled, Turned, TurnLost, Corrupted, Lost, Starved, Restarted, Ticked, Stepped, after_answer, answered_at_once, after_ask, after_call}
+use Rattle.alone.specs.Step.{after_cancellation, after_destroy_begins, after_dropped_open, after_return, after_session, begun_with, block_shown, called_invoke, called_open, cancelled_by}
+use Rattle.alone.specs.Step.{ask_counted, carried_out, closed_at, closed_in, facts_of_label}
 use Rattle.alone.specs.Step.{instance_gone, invoked_at, invoked_in, invoked_with, is_success, is_unused, masked_again, memory_done, no_replies, opened_as, opened_with, serve_outcome}
 use Rattle.alone.specs.Replies.{no_outputs}
-use Rattle.alone.specs.Step.{start_begun, torn_down, turn_counted, turned_as, turned_at, turned_by, unless_unused, waiting_open, went_on, with_delivery}
+use Rattle.alone.specs.Step.{start_begun, torn_down, turn_counted, turned_as, turned_at, turned_by, unless_unused, waited, waiting_open, went_on, with_delivery}
+use Rattle.alone.specs.Waiting.{wait_of}
 use Rattle.alone.proofs.Each.{or_later}
 use Rattle.alone.proofs.Outcomes.{OutcomeLike, ask_like}
 
@@ -296,15 +299,20 @@ module _ {A : Type 0} (m : Machine A) (i : ℕ) where
         nothing (after_session removed inst r.op SUCCESS no_outputs).machine.blocks (session_leaves removed inst r.op SUCCESS no_outputs)
     returns (stages.Destroy reply) code outs = nothing _ refl
 
-    acts : (asks : ℕ) (ask : _) (outcome : Outcome (Machine A)) → OutcomeLike m asks outcome → Delivers (after_ask m inst (mask_noted r ask) outcome).machine.blocks
+    acts : (asks : ℕ) (ask : Ask) (outcome : Outcome (Machine A)) → OutcomeLike m asks outcome → Delivers (after_ask m inst (mask_noted r ask) outcome).machine.blocks
     acts asks ask (Answered after answer) like = nothing _ like.blocks
     acts asks ask (Returned code outs) like = returns r.stage code outs
     acts asks ask Panicked like = nothing _ refl
 
+    carries_out : (serving : Serving) (ask : Ask) (ticks : Option ℕ) → Delivers (carried_out serving m inst r ask ticks).machine.blocks
+    carries_out serving ask None = acts r.asks ask (serve_outcome serving m ask (resolution_after m inst.number r ask)) (ask_like m serving inst.number r ask)
+    carries_out serving ask (Some ticks) =
+        either_way (nat_le MAX_ASKS r.asks) (torn_down m inst.number TARGET_DEAD Tee) (waited m inst (ask_counted r) (deadline_of m.clock ticks)) (nothing m.blocks refl) (nothing m.blocks refl)
+
     goes_on : (behaviour : Behaviour A) (serving : Serving) (w : Waits) → Delivers (went_on behaviour serving m inst r w).machine.blocks
     goes_on behaviour serving (waits.Given given) = nothing _ refl
-    goes_on behaviour serving (waits.Ask ask) =
-        acts r.asks ask (serve_outcome serving m ask (resolution_after m inst.number r ask)) (ask_like m serving inst.number r ask)
+    goes_on behaviour serving (waits.Ask ask) = carries_out serving ask (wait_of ask)
+    goes_on behaviour serving (waits.Until deadline) = nothing _ refl
 
   begins : (n : Machine A) (inst : Instance A) (b : Option Begun) → (begun_with n inst b).blocks ≡ n.blocks
   begins n inst None = cond_both (inst.created && is_left n.table inst.number) (after_destroy_begins n inst None None) n (λ (k : Machine A). k.blocks ≡ n.blocks) (λ _. refl) (λ _. refl)
@@ -350,3 +358,4 @@ module _ {A : Type 0} (behaviour : Behaviour A) where
   changes m Lost = record { happened = []; of_event = inl refl; leaves = refl }
   changes m (Starved i) = record { happened = []; of_event = inl refl; leaves = refl }
   changes m (Restarted took) = record { happened = []; of_event = inl refl; leaves = refl }
+  changes m (Ticked ticks) = record { happened = []; of_event = inl refl; leaves = refl }

@@ -18,7 +18,7 @@ use Rattle.alone.specs.declared.active_entry.Instance.{Instance}
 use Rattle.alone.specs.Asks.{objects_of}
 use Rattle.alone.specs.Laws.{born_of, live}
 use Rattle.alone.specs.Machine.{Machine, is_number, put_instance}
-use Rattle.alone.specs.Step.{Event, Called, Cancelled, Turned, TurnLost, Corrupted, Lost, Starved, Restarted, instance_gone, new_instance, step}
+use Rattle.alone.specs.Step.{Event, Called, Cancelled, Turned, TurnLost, Corrupted, Lost, Starved, Restarted, Ticked, instance_gone, new_instance, step}
 use Rattle.alone.proofs.Kept.{IsKept, cancelled_kept, turned_kept}
 use Rattle.alone.proofs.KeptByCalls.{IsKeptByCalls, called_kept}
 
@@ -78,6 +78,7 @@ module _ {A : Type 0} where
     delivered = λ m op os few. few;
     objects = λ m i ask few. goes_all (λ _. IsFew n m) (object_resolution (objects_of m) i ask) (λ _. few);
     crypto = λ m s stream few. few;
+    timed = λ m time few. few;
     made = λ m i object bits random few. goes_all (λ _. IsFew n m) (generate_resolution (objects_of m) i object bits random) (λ _. few);
   }
 
@@ -101,3 +102,4 @@ module _ {A : Type 0} where
   step_few behaviour m Lost = omega arith
   step_few behaviour m (Starved i) = omega (arith, gone_few (live m) m i (omega arith))
   step_few behaviour m (Restarted took) = omega arith
+  step_few behaviour m (Ticked ticks) = omega arith

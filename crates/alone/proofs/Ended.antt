@@ -18,6 +18,7 @@ use Rattle.alone.specs.declared.active_entry.EntryPoint.{EntryPoint}
 use Rattle.alone.specs.declared.active_entry.EntryPoint.TheVariants as stages
 use Rattle.alone.specs.Machine.{Machine, is_number, put_instance}
 use Rattle.alone.specs.Step.{Stepped, after_session, after_answer, belongs_to, destroy_begins, after_destroy_begins, instance_gone, masked_again, no_replies}
+use Rattle.alone.specs.Waiting.{is_waiting}
 use Rattle.alone.proofs.Totals.{bit, total_filter, total_le, total_zero}
 use Rattle.alone.proofs.Each.{each_both, each_filter}
 use Rattle.alone.proofs.Lists.{find_put, found_none, total_put}
@@ -40,6 +41,17 @@ pub record IsNearer {A : Type 0} (i : ℕ) (q : Queue) (xs : List (Instance A)) 
 
 abbrev pub IsTurned : {A : Type 0} → ℕ → Machine A → Stepped A → Type 0
 IsTurned i m s = IsNearer i m.queue m.instances s.machine.queue s.machine.table s.machine.instances
+
+-- after any turn of this instance: the same, but that fewer turns are left only where it doesn't wait then
+pub record HasTurned {A : Type 0} (i : ℕ) (m : Machine A) (s : Stepped A) : Type 0 where
+  pub sound : IsSoundMachine s.machine
+  pub next : s.machine.queue.next ≡ m.queue.next
+  pub owner : (op j : ℕ) → AllByRecursion (IsOf op j) m.queue.operations → AllByRecursion (IsOf op j) s.machine.queue.operations
+  pub less : 1 ≤ measure i m.queue m.instances → is_waiting s.machine i ≡ false
+      → measure i s.machine.queue s.machine.instances < measure i m.queue m.instances
+
+pub turned_nearer : {A : Type 0} (i : ℕ) (m : Machine A) (s : Stepped A) → IsTurned i m s → HasTurned i m s
+turned_nearer i m s near = record { sound = near.sound; next = near.next; owner = near.owner; less = λ some _. near.less some }
 
 pub nearer_within : {A : Type 0} (i : ℕ) (q : Queue) (xs : List (Instance A)) (now after : Queue) (t : Table) (ys : List (Instance A)) → IsWithin now after
     → IsNearer i q xs now t ys → IsNearer i q xs after t ys

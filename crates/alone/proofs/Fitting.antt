@@ -232,6 +232,7 @@ module _ {A : Type 0} where
     };
     objects = λ m i ask h. goes_all (λ o. IsLater before (with_objects m o)) (object_resolution (objects_of m) i ask) (λ o. record { queue = h.queue; blocks = h.blocks });
     crypto = λ m s stream h. record { queue = h.queue; blocks = h.blocks };
+    timed = λ m time h. record { queue = h.queue; blocks = h.blocks };
     made = λ m i object bits random h.
         goes_all (λ o. IsLater before (with_objects m o)) (generate_resolution (objects_of m) i object bits random) (λ o. record { queue = h.queue; blocks = h.blocks });
   }

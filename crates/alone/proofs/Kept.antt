@@ -1,6 +1,6 @@
 -- What all changes keep of which a step is made, each step keeps.
 use Rattle.app_api.specs.Behaviours.{Behaviour}
-use Rattle.std.proofs.Common.{ℕ, ◌≡◌, ◌&&◌, inl, Bool, true, false, cond, nat_le, List, Option, None, Some, refl, sym, subst}
+use Rattle.std.proofs.Common.{ℕ, ◌≡◌, ◌&&◌, inl, Bool, true, false, cond, nat_le, nat_lt, List, Option, None, Some, refl, sym, subst}
 use Rattle.std.proofs.lemmas.Bool.{cond_both}
 use Rattle.tee_base.specs.declared.codes.Code.{Code}
 use Rattle.tee_base.specs.declared.limits.TheConstants.{MAX_ASKS}
@@ -28,6 +28,9 @@ use Rattle.operation_asks.specs.Past.{key_effect}
 use Rattle.operation_asks.specs.declared.outcome.Outcome.{Outcome as Told}
 use Rattle.operation_asks.specs.declared.outcome.Outcome.TheVariants as told
 use Rattle.store_api.specs.Stores.{Store}
+use Rattle.ticks_time.specs.Clock.{with_own}
+use Rattle.ticks_time.specs.declared.time.TheConstants.{MILLIS}
+use Rattle.ticks_time.specs.declared.time.Time.{Time}
 use Rattle.alone.specs.declared.family.Family.{Family}
 use Rattle.alone.specs.declared.family.Family.TheVariants as families
 use Rattle.alone.specs.declared.reply.Outputs.{Outputs}
@@ -44,9 +47,11 @@ use Rattle.alone.specs.Crypto.{drawn_for, outcome_of_effect, key_generate_resolu
 use Rattle.alone.specs.Families.{family_of}
 use Rattle.alone.specs.Machine.{Machine, instance_at, with_instance}
 use Rattle.alone.specs.Places.{is_misuse, places_at, shown_outputs}
-use Rattle.alone.specs.Step.{Stepped, after_ask, after_session, after_answer, begun_with, after_cancellation, cancelled_by, destroy_begins, after_destroy_begins}
+use Rattle.alone.specs.Step.{Stepped, after_ask, after_session, after_answer, begun_with, carried_out, after_cancellation, cancelled_by, destroy_begins, after_destroy_begins}
 use Rattle.alone.specs.Step.{after_dropped_open, instance_gone, is_success, is_unused, masked_again, after_return, serve_outcome, start_begun, store_left}
 use Rattle.alone.specs.Step.{turn_counted, turned_as, turned_at, turned_by, unless_unused, waiting_open, went_on, with_delivery}
+use Rattle.alone.specs.Times.{time_resolution}
+use Rattle.alone.specs.Waiting.{wait_of}
 use Rattle.alone.proofs.Streams.{IsOfStream, LeavesStream, resolution_stream, drawn_stream}
 
 -- each change of which a turn, a cancellation and a teardown are made keeps it, behind the count of turns
@@ -63,6 +68,7 @@ pub record IsKept {A : Type 0} (P : Machine A → Type 0) : Type 0 where
   pub delivered : (m : Machine A) (op : Option ℕ) (os : Outputs) → P m → P (with_delivery m op os)
   pub objects : (m : Machine A) (i : ℕ) (ask : Ask) → P m → Goes (λ o. P (with_objects m o)) (object_resolution (objects_of m) i ask)
   pub crypto : (m : Machine A) (s : CryptoState) → IsOfStream m.crypto.random s.random → P m → P (with_crypto m s)
+  pub timed : (m : Machine A) (time : Time) → P m → P (record m { clock = with_own m.clock time })
   pub made : (m : Machine A) (i object bits : ℕ) (random : ℕ → List ℕ) → P m → Goes (λ o. P (with_objects m o)) (generate_resolution (objects_of m) i object bits random)
 
 -- and where a call of the store fails, so does its loss
@@ -167,11 +173,21 @@ module _ {A : Type 0} (P : Machine A → Type 0) (k : IsKept P) where
   generation_kept m i (asked.KeyGenerate object bits) h = generated_kept m i object bits h
   generation_kept m i ask h = tt
 
+  -- ---- times
+
+  time_kept : (m : Machine A) (ask : Ask) → P m → Goes P (time_resolution m ask)
+  time_kept m asked.SystemTime h = h
+  time_kept m (asked.SetAppTime seconds millis) h =
+      either_resolution (nat_lt millis MILLIS) _ _ (k.timed m (record { seconds = seconds; millis = millis }) h) tt
+  time_kept m asked.AppTime h = h
+  time_kept m ask h = tt
+
   family_kept : (m : Machine A) (i : ℕ) (r : ActiveEntry) (ask : Ask) (family : Family) → P m → Goes P (resolution_in_family family m i r ask)
   family_kept m i r ask families.Entry h = entry_kept m r ask h
   family_kept m i r ask families.Objects h = in_whole m (object_resolution (objects_of m) i ask) (k.objects m i ask h)
   family_kept m i r ask families.Operations h = operated_kept m i (operation_resolution m.crypto i ask) (resolution_stream m.crypto i ask) h
   family_kept m i r ask families.Generation h = generation_kept m i ask h
+  family_kept m i r ask families.Times h = time_kept m ask h
 
   after_kept : (m : Machine A) (i : ℕ) (r : ActiveEntry) (ask : Ask) → P m → Goes P (resolution_after m i r ask)
   after_kept m i r ask h = either_resolution (nat_le MAX_ASKS r.asks) _ _ tt (family_kept m i r ask (family_of ask) h)
@@ -218,11 +234,16 @@ module _ {A : Type 0} (P : Machine A → Type 0) (k : IsKept P) where
   begun_kept m inst (Some b) h = k.put m _ h
 
   module _ (behaviour : Behaviour A) (serving : Serving) (loses : IsKeptAs serving P) where
-    went_kept : (m : Machine A) (inst : Instance A) (r : ActiveEntry) (w : Waits) → P m → Ends (went_on behaviour serving m inst r w)
-    went_kept m inst r (waits.Given given) h = k.put m _ h
-    went_kept m inst r (waits.Ask ask) h =
+    carried_kept : (m : Machine A) (inst : Instance A) (r : ActiveEntry) (ask : Ask) (o : Option ℕ) → P m → Ends (carried_out serving m inst r ask o)
+    carried_kept m inst r ask None h =
         let c = resolution_after m inst.number r ask in
         acted_kept m inst (mask_noted r ask) (serve_outcome serving m ask c) h (served_kept serving loses m ask c (after_kept m inst.number r ask h))
+    carried_kept m inst r ask (Some ticks) h = either (nat_le MAX_ASKS r.asks) _ _ (k.gone m inst.number h) (k.put m _ h)
+
+    went_kept : (m : Machine A) (inst : Instance A) (r : ActiveEntry) (w : Waits) → P m → Ends (went_on behaviour serving m inst r w)
+    went_kept m inst r (waits.Given given) h = k.put m _ h
+    went_kept m inst r (waits.Ask ask) h = carried_kept m inst r ask (wait_of ask) h
+    went_kept m inst r (waits.Until deadline) h = k.put m _ h
 
     turned_by_kept : (m : Machine A) (inst : Instance A) (r : Option ActiveEntry) → P m → Ends (turned_by behaviour serving m inst r)
     turned_by_kept m inst None h =

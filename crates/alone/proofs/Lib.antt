@@ -32,5 +32,6 @@ pub mod Totals
 pub mod Turned
 pub mod Usable
 pub mod ValidMachines
+pub mod Waited
 pub mod Within
 pub mod WithoutStore

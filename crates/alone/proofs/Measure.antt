@@ -22,10 +22,11 @@ use Rattle.alone.proofs.Sound.{IsSound, HasSlot, Run, entry_le, entry_none, run_
 
 -- ---- one entry
 
--- an entry that waits for an answer or has asked, before all its asks
+-- an entry that waits for an answer, has asked, or waits for a deadline, before all its asks
 abbrev pub turns_left : Waits → ℕ → ℕ
 turns_left (waits.Given given) more = more + 2
 turns_left (waits.Ask ask) more = more + 1
+turns_left (waits.Until deadline) more = more + 3
 
 -- behind create come start and destroy, and behind start and stop comes destroy
 abbrev pub turns_behind : EntryPoint → ℕ
@@ -42,10 +43,12 @@ turns_for r = turns_left r.waits (2 * (65536 - r.asks)) + turns_behind r.stage
 pub left_positive : (w : Waits) (k : ℕ) → 1 ≤ turns_left w k
 left_positive (waits.Given given) k = omega arith
 left_positive (waits.Ask ask) k = omega arith
+left_positive (waits.Until deadline) k = omega arith
 
-left_most : (w : Waits) (k : ℕ) → turns_left w k ≤ k + 2
+left_most : (w : Waits) (k : ℕ) → turns_left w k ≤ k + 3
 left_most (waits.Given given) k = omega arith
 left_most (waits.Ask ask) k = omega arith
+left_most (waits.Until deadline) k = omega arith
 
 behind_most : (stage : EntryPoint) → turns_behind stage ≤ 262148
 behind_most (stages.Create session client ps) = omega arith
@@ -54,7 +57,7 @@ behind_most (stages.Invoke session places) = omega arith
 behind_most (stages.Stop session) = omega arith
 behind_most (stages.Destroy reply) = omega arith
 
-pub turns_most : (r : ActiveEntry) → turns_for r ≤ 393222
+pub turns_most : (r : ActiveEntry) → turns_for r ≤ 393223
 turns_most r = omega (arith, left_most r.waits (2 * (65536 - r.asks)), behind_most r.stage)
 
 -- ---- an instance
@@ -73,18 +76,18 @@ waiting i os = total (λ o. bit (waits_for i o)) os
 
 -- one that waits has more turns than one that has begun
 abbrev pub measure : {A : Type 0} → ℕ → Queue → List (Instance A) → ℕ
-measure i q xs = 393223 * waiting i q.operations + left_in (find (is_number i) xs)
+measure i q xs = 393224 * waiting i q.operations + left_in (find (is_number i) xs)
 
-left_of_most : (o : Option ActiveEntry) → left_of o ≤ 393222
+left_of_most : (o : Option ActiveEntry) → left_of o ≤ 393223
 left_of_most None = omega arith
 left_of_most (Some r) = turns_most r
 
-left_in_most : {A : Type 0} (o : Option (Instance A)) → left_in o ≤ 393222
+left_in_most : {A : Type 0} (o : Option (Instance A)) → left_in o ≤ 393223
 left_in_most None = omega arith
 left_in_most (Some inst) = left_of_most inst.running
 
 -- where 24 wait at most, the turns of a call are enough
-pub measure_most : {A : Type 0} (i : ℕ) (q : Queue) (xs : List (Instance A)) → waiting i q.operations ≤ 24 → measure i q xs ≤ 9830574
+pub measure_most : {A : Type 0} (i : ℕ) (q : Queue) (xs : List (Instance A)) → waiting i q.operations ≤ 24 → measure i q xs ≤ 9830599
 measure_most i q xs few = omega (arith, left_in_most (find (is_number i) xs), few)
 
 -- ---- where no turns are left

@@ -1,6 +1,6 @@
 -- What comes of an ask leaves sessions, instances and blocks as they were, and of the operations no more than their masks; and it is an
 -- answer only where fewer asks were made than may be.
-use Rattle.std.proofs.Common.{ℕ, ◌≡◌, ◌<◌, Bool, true, false, nat_le, refl}
+use Rattle.std.proofs.Common.{ℕ, ◌≡◌, ◌<◌, Bool, true, false, nat_le, nat_lt, refl}
 use Rattle.std.proofs.lemmas.Bool.{cond_both, leb-false}
 use Rattle.tee_base.specs.declared.codes.Code.{Code}
 use Rattle.tee_base.specs.declared.limits.TheConstants.{MAX_ASKS}
@@ -18,6 +18,8 @@ use Rattle.operation_asks.specs.Asks as operations
 use Rattle.operation_asks.specs.Past.{key_effect}
 use Rattle.operation_asks.specs.declared.outcome.Outcome.{Outcome as Told}
 use Rattle.operation_asks.specs.declared.outcome.Outcome.TheVariants as told
+use Rattle.ticks_time.specs.Clock.{Ticking, with_own}
+use Rattle.ticks_time.specs.declared.time.TheConstants.{MILLIS}
 use Rattle.alone.specs.Crypto.{drawn_for, generation_resolution, keyed_by, operated_by, outcome_by, with_crypto}
 use Rattle.alone.specs.declared.family.Family.{Family}
 use Rattle.alone.specs.declared.family.Family.TheVariants as families
@@ -28,6 +30,7 @@ use Rattle.alone.specs.Families.{family_of}
 use Rattle.alone.specs.Machine.{Machine}
 use Rattle.alone.specs.Places.{is_misuse, places_at}
 use Rattle.alone.specs.Step.{serve_outcome}
+use Rattle.alone.specs.Times.{time_resolution}
 use Rattle.alone.proofs.Within.{IsWithin, within_mask_for, within_same}
 
 -- a machine that an answer leaves
@@ -94,11 +97,22 @@ module _ {A : Type 0} (m : Machine A) (made : ℕ) where
   entry_like r asked.ClientIdentity few = record { few = few; queue = within_same m.queue; table = refl; instances = refl; blocks = refl }
   entry_like r ask few = tt
 
+  clock_like : (clock : Ticking) → made < MAX_ASKS → IsLike m made (record m { clock = clock })
+  clock_like clock few = record { few = few; queue = within_same m.queue; table = refl; instances = refl; blocks = refl }
+
+  time_like : (ask : Ask) → made < MAX_ASKS → ResolutionLike m made (time_resolution m ask)
+  time_like asked.SystemTime few = clock_like m.clock few
+  time_like (asked.SetAppTime seconds millis) few =
+      cond_both (nat_lt millis MILLIS) _ _ (ResolutionLike m made) (λ _. clock_like (with_own m.clock (record { seconds = seconds; millis = millis })) few) (λ _. tt)
+  time_like asked.AppTime few = clock_like m.clock few
+  time_like ask few = tt
+
   family_like : (i : ℕ) (r : ActiveEntry) (ask : Ask) (family : Family) → made < MAX_ASKS → ResolutionLike m made (resolution_in_family family m i r ask)
   family_like i r ask families.Entry few = entry_like r ask few
   family_like i r ask families.Objects few = resolution_in_like m.crypto (object_resolution (objects_of m) i ask) few
   family_like i r ask families.Operations few = operated_like i (operation_resolution m.crypto i ask) few
   family_like i r ask families.Generation few = generation_like i ask few
+  family_like i r ask families.Times few = time_like ask few
 
   served_like : (serving : Serving) (ask : Ask) (c : Resolution (Machine A)) → ResolutionLike m made c → OutcomeLike m made (serve_outcome serving m ask c)
   served_like serving ask (Settled outcome) h = h

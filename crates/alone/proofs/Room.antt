@@ -1,12 +1,13 @@
 -- What the entry that runs for an operation gives finds its place in the blocks that the operation names, whatever happened.
 use Rattle.app_api.specs.Behaviours.{Behaviour}
-use Rattle.std.proofs.Common.{ℕ, ◌≡◌, ◌+◌, ◌≤◌, ◌<◌, ◌==◌, ◌&&◌, Bool, true, false, not, cond, List, [], ◌∷◌, ◌++◌, filter, Option, None, Some, option_map}
+use Rattle.std.proofs.Common.{ℕ, ◌≡◌, ◌+◌, ◌≤◌, ◌<◌, ◌==◌, ◌&&◌, nat_le, Bool, true, false, not, cond, List, [], ◌∷◌, ◌++◌, filter, Option, None, Some, option_map}
 use Rattle.std.proofs.Common.{refl, sym, subst, arith}
 use Rattle.std.specs.List.{AllByRecursion}
 use Rattle.std.proofs.lemmas.Bool.{and_parts, both_ways, cond_both, eqb-true, not-true}
 use Rattle.tee_base.specs.declared.codes.Code.{Code}
-use Rattle.tee_base.specs.declared.codes.TheConstants.Code.{SUCCESS}
-use Rattle.tee_base.specs.declared.codes.Origin.TheVariants.{App}
+use Rattle.tee_base.specs.declared.codes.TheConstants.Code.{SUCCESS, TARGET_DEAD}
+use Rattle.tee_base.specs.declared.codes.Origin.TheVariants.{App, Tee}
+use Rattle.tee_base.specs.declared.limits.TheConstants.{MAX_ASKS}
 use Rattle.app_api.specs.declared.ask.Ask.{Ask}
 use Rattle.app_api.specs.declared.ask.Given.TheVariants as givens
 use Rattle.app_api.specs.declared.call.Call.{Call}
@@ -28,6 +29,7 @@ use Rattle.op_queue.specs.Queue.{operation_of, waits_for, with_number_used, with
 use Rattle.object_asks.specs.Asks.{Outcome, Answered, Returned, Panicked, Serving, Serves, Fails, Damaged}
 use Rattle.shared_mem.specs.declared.block.Block.{Block}
 use Rattle.store_api.specs.Stores.{Store}
+use Rattle.ticks_time.specs.Clock.{deadline_of}
 use Rattle.alone.specs.declared.active_entry.Instance.{Instance}
 use Rattle.alone.specs.declared.active_entry.ActiveEntry.{ActiveEntry}
 use Rattle.alone.specs.declared.active_entry.EntryPoint.{EntryPoint}
@@ -43,10 +45,11 @@ use Rattle.alone.specs.Places.{places_at, places_of, shown_outputs}
 use Rattle.alone.specs.Replies.{no_outputs}
 use Rattle.alone.specs.Runs.{machine_after}
 use Rattle.alone.specs.Sharing.{EntriesHaveRoom, EntryHasRoom, HaveRoom}
-use Rattle.alone.specs.Step.{Event, Called, Cancelled, Turned, TurnLost, Corrupted, Lost, Starved, Restarted, Stepped, after_answer, after_ask, after_cancellation, after_destroy_begins}
-use Rattle.alone.specs.Step.{after_dropped_open, after_return, after_session, begun_with, cancelled_by, destroy_begins, first_entry, instance_gone}
+use Rattle.alone.specs.Step.{Event, Called, Cancelled, Turned, TurnLost, Corrupted, Lost, Starved, Restarted, Ticked, Stepped, after_answer, after_ask, after_cancellation}
+use Rattle.alone.specs.Step.{after_destroy_begins, after_dropped_open, after_return, after_session, ask_counted, begun_with, cancelled_by, carried_out, destroy_begins, first_entry, instance_gone}
 use Rattle.alone.specs.Step.{is_success, is_unused, masked_again, new_instance, no_replies}
-use Rattle.alone.specs.Step.{reply_of, serve_outcome, start_begun, step, torn_down, turn_counted, turned_as, turned_at, turned_by, unless_unused, waiting_open, went_on, with_delivery}
+use Rattle.alone.specs.Step.{reply_of, serve_outcome, start_begun, step, torn_down, turn_counted, turned_as, turned_at, turned_by, unless_unused, waited, waiting_open, went_on, with_delivery}
+use Rattle.alone.specs.Waiting.{wait_goes, wait_of}
 use Rattle.alone.proofs.Answered.{step_sound}
 use Rattle.alone.proofs.Changed.{operation_number, operations_once}
 use Rattle.alone.proofs.Each.{each_filter, each_more, each_weaker}
@@ -200,13 +203,24 @@ module _ {A : Type 0} (m : Machine A) where
       acts ask (Returned code outs) like = returns r.stage refl code outs
       acts ask Panicked like = gone inst.number
 
+      waits_fit : (asks : ℕ) (deadline : Option ℕ) → AllFit (waited m inst (record r { asks = asks }) deadline)
+      waits_fit asks deadline =
+          puts (record inst { running = Some (record { op = r.op; stage = r.stage; waits = wait_goes m r.op deadline; asks = asks; masked = r.masked }) }) serves
+
+      carries_out : (serving : Serving) (ask : Ask) (ticks : Option ℕ) → AllFit (carried_out serving m inst r ask ticks)
+      carries_out serving ask None = acts ask (serve_outcome serving m ask (resolution_after m inst.number r ask)) (ask_like m serving inst.number r ask)
+      carries_out serving ask (Some ticks) =
+          let deadline = deadline_of m.clock ticks in
+          either (nat_le MAX_ASKS r.asks) (torn_down m inst.number TARGET_DEAD Tee) (waited m inst (ask_counted r) deadline) (gone inst.number) (waits_fit (r.asks + 1) deadline)
+
       goes_on : (behaviour : Behaviour A) (serving : Serving) (w : Waits) → AllFit (went_on behaviour serving m inst r w)
       goes_on behaviour serving (waits.Given given) =
           puts (record inst {
             state = behaviour.next inst.state given;
             running = Some (record { op = r.op; stage = r.stage; waits = waits.Ask (behaviour.asks inst.state given); asks = r.asks; masked = r.masked });
           }) serves
-      goes_on behaviour serving (waits.Ask ask) = acts ask (serve_outcome serving m ask (resolution_after m inst.number r ask)) (ask_like m serving inst.number r ask)
+      goes_on behaviour serving (waits.Ask ask) = carries_out serving ask (wait_of ask)
+      goes_on behaviour serving (waits.Until deadline) = waits_fit r.asks deadline
 
     module _ (queue : IsQueue m.queue) (told : AllByRecursion IsTold m.queue.operations) where
       begins_at : (inst : Instance A) (o : Operation) → first_waiting m.queue inst.number ≡ Some o → (progress : Progress) → o.progress ≡ progress → is_running progress ≡ false
@@ -363,6 +377,7 @@ module _ {A : Type 0} where
   step_roomy behaviour m Lost sound h = h
   step_roomy behaviour m (Starved i) sound h = gone_roomy m i h
   step_roomy behaviour m (Restarted took) sound h = record { told = tt; entries = tt }
+  step_roomy behaviour m (Ticked ticks) sound h = h
 
   events_roomy : (behaviour : Behaviour A) (m : Machine A) (events : List Event) → IsSoundMachine m → Roomy m → Roomy (machine_after behaviour m events)
   events_roomy behaviour m [] sound h = h

@@ -22,7 +22,7 @@ use Rattle.alone.specs.Blocks.{delivered_for, references_refusal, served_by}
 use Rattle.alone.specs.Machine.{Machine, start}
 use Rattle.alone.specs.Runs.{machine_after}
 use Rattle.alone.specs.Sharing.{ReferencesHold}
-use Rattle.alone.specs.Step.{Event, Called, Cancelled, Turned, TurnLost, Corrupted, Lost, Starved, Restarted, step, with_delivery}
+use Rattle.alone.specs.Step.{Event, Called, Cancelled, Turned, TurnLost, Corrupted, Lost, Starved, Restarted, Ticked, step, with_delivery}
 use Rattle.alone.proofs.Born.{goes_all}
 use Rattle.alone.proofs.Each.{each_both, each_filter, each_map, each_more, each_weaker}
 use Rattle.alone.proofs.Kept.{IsKept, cancelled_kept, turned_kept}
@@ -95,6 +95,7 @@ module _ {A : Type 0} where
     delivered = delivered_usable;
     objects = λ m i ask h. goes_all (λ _. ReferencesHold m) (object_resolution (objects_of m) i ask) (λ _. h);
     crypto = λ m s stream h. h;
+    timed = λ m time h. h;
     made = λ m i object bits random h. goes_all (λ _. ReferencesHold m) (generate_resolution (objects_of m) i object bits random) (λ _. h);
   }
 
@@ -126,6 +127,7 @@ module _ {A : Type 0} where
   step_usable behaviour m Lost h = h
   step_usable behaviour m (Starved i) h = each_filter (Usable m.blocks) (λ o. not (o.instance == i)) m.queue.operations h
   step_usable behaviour m (Restarted took) h = tt
+  step_usable behaviour m (Ticked ticks) h = h
 
   events_usable : (behaviour : Behaviour A) (m : Machine A) (events : List Event) → ReferencesHold m → ReferencesHold (machine_after behaviour m events)
   events_usable behaviour m [] h = h

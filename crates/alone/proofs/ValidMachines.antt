@@ -17,7 +17,7 @@ use Rattle.alone.specs.declared.active_entry.Instance.{Instance}
 use Rattle.alone.specs.Asks.{objects_of, with_objects}
 use Rattle.alone.specs.Crypto.{with_crypto}
 use Rattle.alone.specs.Machine.{Machine, start}
-use Rattle.alone.specs.Step.{Event, Called, Cancelled, Turned, TurnLost, Corrupted, Lost, Starved, Restarted, instance_gone, new_instance, step}
+use Rattle.alone.specs.Step.{Event, Called, Cancelled, Turned, TurnLost, Corrupted, Lost, Starved, Restarted, Ticked, instance_gone, new_instance, step}
 use Rattle.alone.specs.Valid.{IsValid}
 use Rattle.alone.proofs.Each.{ending_numbers, numbers_filter}
 use Rattle.alone.proofs.Kept.{IsKept, cancelled_kept, turned_kept}
@@ -95,6 +95,7 @@ module _ {A : Type 0} where
     delivered = λ m op os fine. fine;
     objects = λ m i ask fine. resolution_fine m (object_resolution (objects_of m) i ask) fine (resolution_sound (objects_of m) i ask fine.objects);
     crypto = λ m s stream fine. over_crypto m s fine stream;
+    timed = λ m time fine. fine;
     made = λ m i object bits random fine. resolution_fine m (generate_resolution (objects_of m) i object bits random) fine (generate_sound (objects_of m) i object bits random fine.objects);
   }
 
@@ -118,6 +119,7 @@ module _ {A : Type 0} where
   step_fine behaviour m Lost fine = fine
   step_fine behaviour m (Starved i) fine = gone_fine m i fine
   step_fine behaviour m (Restarted took) fine = record { objects = nothing_sound _; instances = refl; place = 0; within = omega arith; stream = refl }
+  step_fine behaviour m (Ticked ticks) fine = fine
 
   pub step_valid : (behaviour : Behaviour A) (m : Machine A) (event : Event) → IsValid m → IsValid (step behaviour m event).machine
   step_valid behaviour m event valid = valid_from_fine (step behaviour m event).machine (step_fine behaviour m event (fine_from_valid m valid))

@@ -1,6 +1,6 @@
 -- A turn in which no ask waits that may need the store goes alike over every store.
 use Rattle.app_api.specs.Behaviours.{Behaviour}
-use Rattle.std.proofs.Common.{ℕ, ◌≡◌, ◌==◌, ◌&&◌, Bool, true, false, not, nat_le, cond, List, Option, None, Some, refl, ap, ◌∙◌}
+use Rattle.std.proofs.Common.{ℕ, ◌≡◌, ◌==◌, ◌&&◌, Bool, true, false, not, nat_le, nat_lt, cond, List, Option, None, Some, refl, ap, ◌∙◌}
 use Rattle.std.proofs.lemmas.Bool.{both_ways, cond_both}
 use Rattle.tee_base.specs.declared.codes.Code.{Code}
 use Rattle.tee_base.specs.declared.limits.TheConstants.{MAX_ASKS}
@@ -25,6 +25,7 @@ use Rattle.operation_asks.specs.Effects.{Effect}
 use Rattle.operation_asks.specs.declared.outcome.Outcome.{Outcome as Told}
 use Rattle.operation_asks.specs.declared.outcome.Outcome.TheVariants as told
 use Rattle.store_api.specs.Stores.{Store}
+use Rattle.ticks_time.specs.declared.time.TheConstants.{MILLIS}
 use Rattle.alone.specs.declared.reply.Outputs.{Outputs}
 use Rattle.alone.specs.declared.active_entry.Instance.{Instance}
 use Rattle.alone.specs.declared.active_entry.ActiveEntry.{ActiveEntry}
@@ -38,7 +39,9 @@ use Rattle.alone.specs.Laws.{step_with_store, with_store}
 use Rattle.alone.specs.Machine.{Machine, instance_at}
 use Rattle.alone.specs.Places.{shown_outputs, is_misuse, places_at}
 use Rattle.alone.specs.Step.{Stepped, after_ask, after_session, after_answer, begun_with, after_destroy_begins, is_success, needs_store, of_instance, of_running, of_waits}
-use Rattle.alone.specs.Step.{no_replies, reaches, after_return, serve_outcome, turn_counted, after_turn, turned_as, turned_at, turned_by, went_on, with_delivery}
+use Rattle.alone.specs.Step.{carried_out, no_replies, reaches, after_return, serve_outcome, turn_counted, after_turn, turned_as, turned_at, turned_by, went_on, with_delivery}
+use Rattle.alone.specs.Times.{set_time_resolution}
+use Rattle.alone.specs.Waiting.{wait_of}
 
 -- the same objects over the other store
 abbrev restored : Store → Objects → Objects
@@ -195,6 +198,8 @@ module _ {A : Type 0} (store : Store) where
   resolution_alike m i r (asked.AeSeal op bytes room tag_room) e = operated_alike m i _
   resolution_alike m i r (asked.AeOpen op bytes room tag) e = operated_alike m i _
   resolution_alike m i r (asked.KeyGenerate object bits) e = generated_alike m i object bits
+  resolution_alike m i r (asked.SetAppTime seconds millis) e =
+      either_alike (with_store store) (nat_lt millis MILLIS) _ _ _ _ (record { same = refl; settles = refl }) (record { same = refl; settles = refl })
   resolution_alike m i r ask e = record { same = refl; settles = refl }
 
   after_alike : (m : Machine A) (i : ℕ) (r : ActiveEntry) (ask : Ask) → may_need_store ask ≡ false → IsAlike (with_store store) (resolution_after (with_store store m) i r ask)
@@ -215,16 +220,22 @@ module _ {A : Type 0} (store : Store) where
   -- ---- turns
 
   module _ (behaviour : Behaviour A) where
-    went_over : (m : Machine A) (inst : Instance A) (r : ActiveEntry) (w : Waits) → of_waits (λ r ask. may_need_store ask) r w ≡ false →
-        went_on behaviour Serves (with_store store m) inst r w ≡ step_with_store store (went_on behaviour Serves m inst r w)
-    went_over m inst r (waits.Given given) e = refl
-    went_over m inst r (waits.Ask ask) e =
+    carried_over : (m : Machine A) (inst : Instance A) (r : ActiveEntry) (ask : Ask) (o : Option ℕ) → may_need_store ask ≡ false →
+        carried_out Serves (with_store store m) inst r ask o ≡ step_with_store store (carried_out Serves m inst r ask o)
+    carried_over m inst r ask None e =
         let noted = mask_noted r ask in
         let c = resolution_after m inst.number r ask in
         let alike = after_alike m inst.number r ask e in
         ap (λ (d : Resolution (Machine A)). after_ask (with_store store m) inst noted (serve_outcome Serves (with_store store m) ask d)) alike.same
         ∙ ap (λ (o : Outcome (Machine A)). after_ask (with_store store m) inst noted o) (served_over m ask c alike.settles)
         ∙ acted_over m inst noted (serve_outcome Serves m ask c)
+    carried_over m inst r ask (Some ticks) e = either (nat_le MAX_ASKS r.asks) _ _ _ _ refl refl
+
+    went_over : (m : Machine A) (inst : Instance A) (r : ActiveEntry) (w : Waits) → of_waits (λ r ask. may_need_store ask) r w ≡ false →
+        went_on behaviour Serves (with_store store m) inst r w ≡ step_with_store store (went_on behaviour Serves m inst r w)
+    went_over m inst r (waits.Given given) e = refl
+    went_over m inst r (waits.Ask ask) e = carried_over m inst r ask (wait_of ask) e
+    went_over m inst r (waits.Until deadline) e = refl
 
     turned_by_over : (m : Machine A) (inst : Instance A) (r : Option ActiveEntry) → of_running (λ r ask. may_need_store ask) r ≡ false →
         turned_by behaviour Serves (with_store store m) inst r ≡ step_with_store store (turned_by behaviour Serves m inst r)
@@ -247,6 +258,9 @@ module _ {A : Type 0} where
   close_settles : (m : Machine A) (i object : ℕ) (r : ActiveEntry) → comes_to_store (resolution m i r (asked.ObjClose object)) ≡ false
   unfolding object_resolution
   close_settles m i object r = (objects_alike m.store m _ _ (close_alike m.store (objects_of m) i object)).settles
+
+  set_time_settles : (m : Machine A) (seconds millis : ℕ) → comes_to_store (set_time_resolution m seconds millis) ≡ false
+  set_time_settles m seconds millis = cond_both (nat_lt millis MILLIS) _ _ (λ (c : Resolution (Machine A)). comes_to_store c ≡ false) (λ _. refl) (λ _. refl)
 
   resolution_needs : (m : Machine A) (i : ℕ) (r : ActiveEntry) (ask : Ask) → comes_to_store (resolution m i r ask) ≡ true → may_need_store ask ≡ true
   unfolding object_resolution operation_resolution
@@ -282,6 +296,7 @@ module _ {A : Type 0} where
   resolution_needs m i r (asked.DigestUpdate op bytes) e = absurd (both_ways _ refl e)
   resolution_needs m i r (asked.DigestFinal op bytes room) e = absurd (both_ways _ refl e)
   resolution_needs m i r (asked.KeyGenerate object bits) e = absurd (both_ways _ (generated_alike {A = A} m.store m i object bits).settles e)
+  resolution_needs m i r (asked.SetAppTime seconds millis) e = absurd (both_ways _ (set_time_settles m seconds millis) e)
   resolution_needs m i r ask e = absurd (both_ways _ refl e)
 
   after_needs : (m : Machine A) (i : ℕ) (r : ActiveEntry) (ask : Ask) → comes_to_store (resolution_after m i r ask) ≡ true → may_need_store ask ≡ true
@@ -292,6 +307,7 @@ module _ {A : Type 0} where
   waits_need : (m : Machine A) (i : ℕ) (r : ActiveEntry) (w : Waits) → of_waits (λ r ask. comes_to_store (resolution_after m i r ask)) r w ≡ true → of_waits (λ r ask. may_need_store ask) r w ≡ true
   waits_need m i r (waits.Given given) e = e
   waits_need m i r (waits.Ask ask) e = after_needs m i r ask e
+  waits_need m i r (waits.Until deadline) e = e
 
   running_needs : (m : Machine A) (i : ℕ) (r : Option ActiveEntry) → of_running (λ r ask. comes_to_store (resolution_after m i r ask)) r ≡ true → of_running (λ r ask. may_need_store ask) r ≡ true
   running_needs m i None e = e

@@ -28,6 +28,7 @@ pub use Rattle.alone.specs.Machine.{objects_of, with_objects}
 use Rattle.alone.specs.Crypto.{crypto_resolution, generation_resolution}
 use Rattle.alone.specs.Machine.{Machine}
 use Rattle.alone.specs.Places.{is_misuse, places_at}
+use Rattle.alone.specs.Times.{time_resolution}
 use Rattle.tee_base.specs.Words.{InstanceNumber}
 
 -- an operation that was cancelled before it began is answered with this
@@ -108,6 +109,7 @@ resolution_in_family Entry m i r ask = entry_resolution m r ask
 resolution_in_family families.Objects m i r ask = resolution_in (with_objects m) (object_resolution (objects_of m) i ask)
 resolution_in_family families.Operations m i r ask = crypto_resolution m i ask
 resolution_in_family families.Generation m i r ask = generation_resolution m i ask
+resolution_in_family families.Times m i r ask = time_resolution m ask
 
 -- how the ask goes that an instance makes in this entry
 abbrev pub resolution : {A : Type 0} → Machine A → InstanceNumber → ActiveEntry → Ask → Resolution (Machine A)

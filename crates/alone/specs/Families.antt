@@ -2,7 +2,7 @@
 use Rattle.app_api.specs.declared.ask.Ask.{Ask}
 use Rattle.app_api.specs.declared.ask.Ask.TheVariants as asked
 use Rattle.alone.specs.declared.family.Family.{Family}
-use Rattle.alone.specs.declared.family.Family.TheVariants.{Entry, Objects, Operations, Generation}
+use Rattle.alone.specs.declared.family.Family.TheVariants.{Entry, Objects, Operations, Generation, Times}
 
 -- which family each ask is of
 abbrev pub family_of : Ask → Family
@@ -35,6 +35,10 @@ family_of (asked.KeyCopy to from) = Objects
 family_of (asked.KeyRestrict object usage) = Objects
 family_of (asked.Random count) = Operations
 family_of (asked.KeyGenerate object bits) = Generation
+family_of (asked.Wait ticks) = Times
+family_of asked.SystemTime = Times
+family_of (asked.SetAppTime seconds millis) = Times
+family_of asked.AppTime = Times
 family_of (asked.OpNew alg mode max_bits) = Operations
 family_of (asked.OpFree op) = Operations
 family_of (asked.OpInfo op) = Operations

@@ -2,7 +2,7 @@
 use Rattle.std.specs.Prelude.{ℕ, ◌≡◌, ◌+◌, length}
 use Rattle.store_api.specs.Stores.{Store}
 use Rattle.alone.specs.Machine.{Machine}
-use Rattle.alone.specs.Step.{Event, Called, Cancelled, Turned, TurnLost, Corrupted, Lost, Starved, Restarted, Stepped}
+use Rattle.alone.specs.Step.{Event, Called, Cancelled, Turned, TurnLost, Corrupted, Lost, Starved, Restarted, Ticked, Stepped}
 
 -- how many operations are unanswered, and how many instances there are, in all
 abbrev pub live : {A : Type 0} → Machine A → ℕ
@@ -18,6 +18,19 @@ born_of (Corrupted instance) = 0
 born_of Lost = 0
 born_of (Starved instance) = 0
 born_of (Restarted took) = 0
+born_of (Ticked ticks) = 0
+
+-- how many ticks an event brings
+abbrev pub ticks_of : Event → ℕ
+ticks_of (Called client call) = 0
+ticks_of (Cancelled op) = 0
+ticks_of (Turned instance) = 0
+ticks_of (TurnLost instance) = 0
+ticks_of (Corrupted instance) = 0
+ticks_of Lost = 0
+ticks_of (Starved instance) = 0
+ticks_of (Restarted took) = 0
+ticks_of (Ticked ticks) = ticks
 
 -- the objects, the change in doubt and the loss of the storage are the same
 pub record StorageStays {A : Type 0} (before after : Machine A) : Type 0 where

@@ -15,4 +15,6 @@ pub mod Replies
 pub mod Runs
 pub mod Sharing
 pub mod Step
+pub mod Times
 pub mod Valid
+pub mod Waiting

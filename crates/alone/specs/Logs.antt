@@ -10,7 +10,7 @@ use Rattle.app_api.specs.declared.param.Params.{Params}
 use Rattle.alone.specs.declared.reply.Reply.{Reply}
 use Rattle.alone.specs.Machine.{Machine}
 use Rattle.alone.specs.Runs.{machine_after}
-use Rattle.alone.specs.Step.{Event, Called, Cancelled, Turned, TurnLost, Corrupted, Lost, Starved, Restarted, is_enabled, step}
+use Rattle.alone.specs.Step.{Event, Called, Cancelled, Turned, TurnLost, Corrupted, Lost, Starved, Restarted, Ticked, is_enabled, step}
 
 -- an entry: the client that made it, what happened, and the replies that it had
 pub record Logged : Type 0 where
@@ -91,6 +91,7 @@ bytes_of_event (Corrupted instance) = 0
 bytes_of_event Lost = 0
 bytes_of_event (Starved instance) = 0
 bytes_of_event (Restarted took) = 0
+bytes_of_event (Ticked ticks) = 0
 
 -- the parameter bytes in a log
 abbrev pub bytes_in : List Logged → ℕ

@@ -5,6 +5,7 @@ use Rattle.instances.specs.Instances.{Table, no_instances}
 use Rattle.op_queue.specs.Queue.{Queue, empty_queue}
 use Rattle.shared_mem.specs.declared.block.Block.{Block}
 use Rattle.store_api.specs.Stores.{Store}
+use Rattle.ticks_time.specs.Clock.{Ticking, new_clock}
 use Rattle.object_asks.specs.Asks.{Objects}
 use Rattle.object_asks.specs.Held.{Held, nothing_held}
 use Rattle.operation_asks.specs.Asks.{CryptoState, no_operations}
@@ -19,6 +20,8 @@ pub record Machine (A : Type 0) : Type 0 where
   pub seed : List ℕ
   -- how often the power was lost
   pub boot : ℕ
+  -- the ticks that came, and the time that the application set
+  pub clock : Ticking
   -- its properties, its sessions, and which instances there are
   pub table : Table
   pub instances : List (Instance A)
@@ -44,6 +47,7 @@ start host index seed store = record {
   index = index;
   seed = seed;
   boot = 0;
+  clock = new_clock;
   table = no_instances host.properties;
   instances = [];
   queue = empty_queue;

@@ -7,7 +7,7 @@ use Rattle.app_api.specs.declared.call.Call.{Call}
 use Rattle.alone.specs.declared.reply.Reply.{Reply}
 use Rattle.alone.specs.Machine.{Machine}
 use Rattle.alone.specs.Marks.{Marks, event_at}
-use Rattle.alone.specs.Step.{Event, Called, step, after_call, is_answered}
+use Rattle.alone.specs.Step.{Event, Called, step, after_call, is_over}
 use Rattle.tee_base.specs.Words.{InstanceNumber}
 
 -- how many turns a call line has at most
@@ -33,17 +33,17 @@ module _ {A : Type 0} (behaviour : Behaviour A) (marks : Marks) where
   turns_of zero m instance = []
   turns_of (suc more) m instance = let event = event_at marks m instance in event ∷ turns_of more (step behaviour m event).machine instance
 
-  -- turns of the instance until the operation is answered, at most so many
+  -- turns of the instance until the operation is answered or the instance waits, at most so many
   abbrev pub turns_until : ℕ → Machine A → InstanceNumber → ℕ → List Event
   turns_until zero m instance op = []
   turns_until (suc more) m instance op =
       let event = event_at marks m instance in
-      if is_answered m op then [] else event ∷ turns_until more (step behaviour m event).machine instance op
+      if is_over m instance op then [] else event ∷ turns_until more (step behaviour m event).machine instance op
 
-  -- turns of the call's instance until the call is answered
+  -- turns of the call's instance until the call is answered or the instance waits
   abbrev pub turns_of_call : Machine A → ℕ → Call → List Event
   turns_of_call m client call = let s = after_call m client call in turns_until most_turns s.machine s.instance m.queue.next
 
-  -- a call, and then turns until it is answered
+  -- a call, and then turns until it is answered or its instance waits
   abbrev pub events_of_call : Machine A → ℕ → Call → List Event
   events_of_call m client call = Called client call ∷ turns_of_call m client call

@@ -20,7 +20,7 @@ use Rattle.alone.specs.declared.places.Places.{Places}
 use Rattle.alone.specs.Blocks.{references_refusal, served_by}
 use Rattle.alone.specs.Machine.{Machine, instance_at}
 use Rattle.alone.specs.Places.{places_at}
-use Rattle.alone.specs.Step.{Event, Called, Cancelled, Turned, TurnLost, Corrupted, Lost, Starved, Restarted, step}
+use Rattle.alone.specs.Step.{Event, Called, Cancelled, Turned, TurnLost, Corrupted, Lost, Starved, Restarted, Ticked, step}
 use Rattle.tee_base.specs.Words.{InstanceNumber}
 
 -- ---- what changes blocks
@@ -68,6 +68,7 @@ IsOfEvent m (Corrupted instance) happened = AreDeliveries m instance happened
 IsOfEvent m Lost happened = ⊥
 IsOfEvent m (Starved instance) happened = ⊥
 IsOfEvent m (Restarted took) happened = ⊥
+IsOfEvent m (Ticked ticks) happened = ⊥
 
 -- an event leaves the blocks as what it does to them makes them, which is nothing, or what such an event may do
 pub record ChangesBlocks {A : Type 0} (behaviour : Behaviour A) (m : Machine A) (event : Event) : Type 0 where

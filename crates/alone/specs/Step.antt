@@ -2,8 +2,8 @@
 -- Numbers of sections are those of TEE Internal Core API 1.3 (instances and sessions: 2.1.3; panics: 2.3.3; entry points: 4.3;
 -- cancellation: 4.10) and TEE Client API 1.0 (calls: 4.5.5 to 4.5.8; origins: 4.4.3).
 use Rattle.app_api.specs.Behaviours.{Behaviour}
-use Rattle.std.specs.Prelude.{ℕ, ◌+◌, ◌==◌, Bool, true, false, not, ◌&&◌, List, [], ◌∷◌, ◌++◌, Option, None, Some, Result, Ok}
-use Rattle.std.specs.Prelude.{Err, is_some, nat_lt, option_map, option_to_list, if◌then◌else◌, filter, map}
+use Rattle.std.specs.Prelude.{ℕ, ◌+◌, ◌==◌, Bool, true, false, not, ◌&&◌, ◌||◌, List, [], ◌∷◌, ◌++◌, Option, None, Some, Result, Ok}
+use Rattle.std.specs.Prelude.{Err, is_some, nat_le, nat_lt, option_map, option_to_list, if◌then◌else◌, filter, map}
 use Rattle.tee_base.specs.declared.codes.Code.{Code}
 use Rattle.tee_base.specs.declared.codes.Origin.{Origin}
 use Rattle.tee_base.specs.declared.codes.Origin.TheVariants.{Api, Tee, App}
@@ -53,7 +53,10 @@ use Rattle.alone.specs.Blocks.{block_outputs, delivered_for, given_params, refer
 use Rattle.alone.specs.Machine.{Machine, is_number, instance_at, with_instance}
 use Rattle.alone.specs.Places.{places_of, shown_outputs}
 use Rattle.alone.specs.Replies.{no_outputs}
+use Rattle.alone.specs.Waiting.{is_waiting, wait_goes, wait_of}
 use Rattle.tee_base.specs.Words.{InstanceNumber}
+use Rattle.tee_base.specs.declared.limits.TheConstants.{MAX_ASKS}
+use Rattle.ticks_time.specs.Clock.{after_restart as clock_after_restart, deadline_of, with_ticks}
 
 -- the machine after an event, and the replies to the client operations that it answered, in ascending order
 pub record Stepped (A : Type 0) : Type 0 where
@@ -402,10 +405,33 @@ serve_outcome Damaged m ask (ComesToStore kept if_served) = came_of Damaged m.lo
 
 -- ---- a turn
 
--- the entry goes on: the application is given what waits for it, or its ask is served
+-- a turn on a wait of this deadline
+abbrev pub waited : {A : Type 0} → Machine A → Instance A → ActiveEntry → Option ℕ → Stepped A
+waited m inst r deadline = no_replies (with_instance m (record inst {
+  running = Some (record { op = r.op; stage = r.stage; waits = wait_goes m r.op deadline; asks = r.asks; masked = r.masked });
+}))
+
+-- the same entry, with one ask more
+abbrev pub ask_counted : ActiveEntry → ActiveEntry
+ask_counted r = record { op = r.op; stage = r.stage; waits = r.waits; asks = r.asks + 1; masked = r.masked }
+
+-- the first turn on a wait of so many ticks fixes its deadline, and counts the ask; an entry that has made all its asks panics
+abbrev pub wait_begun : {A : Type 0} → Machine A → Instance A → ActiveEntry → ℕ → Stepped A
+wait_begun m inst r ticks =
+    if nat_le MAX_ASKS r.asks then torn_down m inst.number TARGET_DEAD Tee
+    else waited m inst (ask_counted r) (deadline_of m.clock ticks)
+
+-- the ask is carried out: it is served, where it isn't one to wait for so many ticks
+abbrev pub carried_out : {A : Type 0} → Serving → Machine A → Instance A → ActiveEntry → Ask → Option ℕ → Stepped A
+carried_out serving m inst r ask None =
+    after_ask m inst (mask_noted r ask) (serve_outcome serving m ask (resolution_after m inst.number r ask))
+carried_out serving m inst r ask (Some ticks) = wait_begun m inst r ticks
+
+-- the entry goes on: the application is given what waits for it, or its ask is carried out, or it waits on
 abbrev pub went_on : {A : Type 0} → Behaviour A → Serving → Machine A → Instance A → ActiveEntry → Waits → Stepped A
 went_on behaviour serving m inst r (waits.Given given) = no_replies (after_app_step behaviour m inst r given)
-went_on behaviour serving m inst r (waits.Ask ask) = after_ask m inst (mask_noted r ask) (serve_outcome serving m ask (resolution_after m inst.number r ask))
+went_on behaviour serving m inst r (waits.Ask ask) = carried_out serving m inst r ask (wait_of ask)
+went_on behaviour serving m inst r (waits.Until deadline) = waited m inst r deadline
 
 -- a turn of the instance: the entry that runs goes on, or the next operation begins where none runs
 abbrev pub turned_by : {A : Type 0} → Behaviour A → Serving → Machine A → Instance A → Option ActiveEntry → Stepped A
@@ -438,12 +464,17 @@ after_starved_turn m i = torn_down (turn_counted m) i OUT_OF_MEMORY Tee
 abbrev pub is_answered : {A : Type 0} → Machine A → ℕ → Bool
 is_answered m op = nat_lt 0 op && nat_lt op m.queue.next && not (is_some (option_map operation_facts (operation_of m.queue op)))
 
+-- the turns of a call are over: its operation is answered, or its instance waits
+abbrev pub is_over : {A : Type 0} → Machine A → InstanceNumber → ℕ → Bool
+is_over m i op = is_answered m op || is_waiting m i
+
 -- ---- what waits in an instance
 
 -- a fact about the ask that waits, false where none does
 abbrev pub of_waits : (ActiveEntry → Ask → Bool) → ActiveEntry → Waits → Bool
 of_waits test r (waits.Given given) = false
 of_waits test r (waits.Ask ask) = test r ask
+of_waits test r (waits.Until deadline) = false
 
 -- the same of the entry that runs, false where none does
 abbrev pub of_running : (ActiveEntry → Ask → Bool) → Option ActiveEntry → Bool
@@ -475,10 +506,11 @@ abbrev pub store_found : Bool → Store → Option Store → Store
 store_found took store None = store
 store_found took store (Some doubt) = if took then doubt else store
 
--- the machine after the power came back: its objects, its blocks of shared memory, and the numbers of operations and turns go on
+-- the machine after the power came back: its objects, its blocks of shared memory, its ticks, and the numbers of operations and turns go on
 abbrev pub after_restart : {A : Type 0} → Machine A → Bool → Machine A
 after_restart m took = record m {
   boot = m.boot + 1;
+  clock = clock_after_restart m.clock;
   table = no_instances m.table.properties;
   instances = [];
   queue = without_operations m.queue;
@@ -492,8 +524,8 @@ after_restart m took = record m {
 -- ---- events
 
 -- a client's call, and its request to cancel an operation; a turn; a turn in which a call of the store fails; one in which what the
--- store reads is damaged; that the storage is lost for another reason; a turn that finds no memory; and that the power came back,
--- with the change in doubt or without it
+-- store reads is damaged; that the storage is lost for another reason; a turn that finds no memory; that the power came back,
+-- with the change in doubt or without it; and that so many ticks passed
 pub data Event : Type 0 where
   Called : (client : ℕ) (call : Call) → Event
   Cancelled : (op : ℕ) → Event
@@ -503,6 +535,7 @@ pub data Event : Type 0 where
   Lost : Event
   Starved : (instance : InstanceNumber) → Event
   Restarted : (took : Bool) → Event
+  Ticked : (ticks : ℕ) → Event
 
 -- in which machines each event is enabled
 abbrev pub is_enabled : {A : Type 0} → Machine A → Event → Bool
@@ -514,6 +547,7 @@ is_enabled m (Corrupted instance) = reaches m instance && not m.lost
 is_enabled m Lost = not m.lost
 is_enabled m (Starved instance) = is_some (instance_at m instance)
 is_enabled m (Restarted took) = true
+is_enabled m (Ticked ticks) = true
 
 -- one step; next and asks are the application's two functions
 abbrev pub step : {A : Type 0} → Behaviour A → Machine A → Event → Stepped A
@@ -525,3 +559,4 @@ step behaviour m (Corrupted instance) = turned_as behaviour Damaged m instance
 step behaviour m Lost = no_replies (record m { lost = true })
 step behaviour m (Starved instance) = after_starved_turn m instance
 step behaviour m (Restarted took) = no_replies (after_restart m took)
+step behaviour m (Ticked ticks) = no_replies (record m { clock = with_ticks m.clock ticks })

@@ -38,6 +38,8 @@ pub enum Waits {
     Given(Given),
     /// The application has asked for this.
     Ask(Ask),
+    /// The clock is to have this many ticks, or the wait has no end where it is None. The ask to wait is counted.
+    Until(Option<u64>),
 }
 
 /// An entry that runs.

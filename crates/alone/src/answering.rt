@@ -8,16 +8,16 @@ ghost use Rattle.alone.specs.Machine.{start};
 ghost use Rattle.alone.specs.Marks.{Marks};
 ghost use Rattle.alone.specs.Step.{Event};
 ghost use Rattle.alone.specs.Runs.{machine_after};
-ghost use Rattle.alone.specs.Answering.{CallIsAnswered, OperationsAreFew};
+ghost use Rattle.alone.specs.Answering.{CallIsOver, OperationsAreFew};
 
 use app_api::Application;
 
-/// Whatever happened before, and however its turns go, a client's call is answered within the turns that it has: their
-/// number is never what stops it.
-pub fn call_lines_are_answered<A: Application>()
+/// Whatever happened before, and however its turns go, a client's call is answered within the turns that it has, or its
+/// instance waits: the number of turns is never what stops it.
+pub fn call_lines_are_over<A: Application>()
     ensures { (host : Host A) (index : ℕ) (seed : List ℕ) (store : Store) (events : List Event)
         (marks : Marks) (client : ℕ) (call : Call)
-        → CallIsAnswered A.behaviour marks
+        → CallIsOver A.behaviour marks
         (machine_after A.behaviour (start host index seed store) events) client call }
 {}
 

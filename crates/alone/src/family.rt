@@ -16,6 +16,8 @@ pub enum Family {
     Operations,
     /// A key that is made of random bytes.
     Generation,
+    /// Waits and times.
+    Times,
 }
 
 /// The family of an ask.
@@ -51,6 +53,9 @@ pub fn family_of(ask: &Ask) -> Family
         | Ask::KeyCopy { .. }
         | Ask::KeyRestrict { .. } => Family::Objects,
         Ask::KeyGenerate { .. } => Family::Generation,
+        Ask::Wait { .. } | Ask::SystemTime | Ask::SetAppTime { .. } | Ask::AppTime => {
+            Family::Times
+        }
         Ask::Random { .. }
         | Ask::OpNew { .. }
         | Ask::OpFree { .. }

@@ -19,9 +19,10 @@ mod reply;
 mod sharing;
 mod turn;
 mod validity;
+mod waiting;
 
 pub use active_entry::{ActiveEntry, EntryPoint, Instance, Waits};
-pub use answering::{call_lines_are_answered, operations_are_few};
+pub use answering::{call_lines_are_over, operations_are_few};
 pub use app_api::Call;
 pub use blocks::{block_outputs, deliver_to_blocks, give_params, references_refusal};
 pub use copies::{copy_call, copy_params};
@@ -42,3 +43,4 @@ pub use reply::{Outputs, REPLIES, Replies, Reply, Shown};
 pub use sharing::{blocks_change_by_events, references_hold};
 pub use turn::TurnKind;
 pub use validity::machines_stay_valid;
+pub use waiting::{ticks_are_counted, waits_go_as_stated};

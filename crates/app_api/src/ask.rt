@@ -36,7 +36,7 @@ pub enum Given {
     Answer(Answer),
 }
 
-/// One call of the internal API, or the end of the entry (TEE Internal Core API 1.3, chapters 4 to 6).
+/// One call of the internal API, or the end of the entry (TEE Internal Core API 1.3, chapters 4 to 7).
 ///
 /// It may hold a secret, so `Debug` writes nothing of what it holds.
 #[derive(Drop)]
@@ -62,6 +62,20 @@ pub enum Ask {
     Random {
         count: u32,
     },
+
+    /// `TEE_Wait`, for so many ticks; `0xFFFF_FFFF` has no end.
+    Wait {
+        ticks: u32,
+    },
+    /// `TEE_GetSystemTime`.
+    SystemTime,
+    /// `TEE_SetTAPersistentTime`.
+    SetAppTime {
+        seconds: u32,
+        millis: u32,
+    },
+    /// `TEE_GetTAPersistentTime`.
+    AppTime,
 
     /// `TEE_OpenPersistentObject`.
     ObjOpen {
@@ -329,6 +343,11 @@ pub enum Answer {
     Sealed {
         content: Bytes,
         tag: Bytes,
+    },
+    /// A point of time: whole seconds, and fewer than 1,000 milliseconds beside them.
+    Time {
+        seconds: u32,
+        millis: u32,
     },
 }
 

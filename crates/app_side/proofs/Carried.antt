@@ -1,12 +1,12 @@
 -- From what comes of an ask to what it leaves of the machine.
-use Rattle.std.proofs.Common.{ℕ, ◌≡◌, Bool, true, false, not, nat_le, cond, List, Option, None, Some, refl, sym, ap, subst, ◌∙◌, arith}
+use Rattle.std.proofs.Common.{ℕ, ◌≡◌, Bool, true, false, not, nat_le, nat_lt, cond, List, Option, None, Some, refl, sym, ap, subst, ◌∙◌, arith}
 use Rattle.std.specs.Prelude.{◌||◌, ◌&&◌, ◌<◌, ◌≤◌}
 use Rattle.std.proofs.lemmas.Bool.{lt-leb, le-leb}
 use Rattle.tee_base.specs.declared.limits.TheConstants.{MAX_ASKS}
 use Rattle.app_api.specs.declared.ask.Ask.{Ask}
 use Rattle.app_api.specs.declared.ask.Ask.TheVariants as asked
 use Rattle.app_api.specs.declared.ask.Answer.{Answer}
-use Rattle.app_api.specs.declared.ask.Answer.TheVariants.{Refused}
+use Rattle.app_api.specs.declared.ask.Answer.TheVariants.{Done, Refused}
 use Rattle.store_api.specs.Stores.{Store}
 use Rattle.store_api.specs.Keeping.{Keeper, Status}
 use Rattle.object_asks.specs.Asks.{changes_store, object_resolution}
@@ -35,6 +35,9 @@ use Rattle.alone.specs.Families.{family_of}
 use Rattle.alone.specs.Machine.{Machine}
 use Rattle.alone.specs.Places.{is_misuse, places_at}
 use Rattle.alone.specs.Step.{lost_at, serve_outcome, store_left}
+use Rattle.alone.specs.Times.{time_resolution}
+use Rattle.ticks_time.specs.Clock.{with_own}
+use Rattle.ticks_time.specs.declared.time.TheConstants.{MILLIS}
 use Rattle.app_side.specs.declared.side.AppSide.{AppSide}
 use Rattle.app_side.specs.Asking.{reaches_store, reaching_in_family}
 use Rattle.app_side.specs.Represents.{IsLeft, doubtful, machine_of, machine_over, after_store_kind, over}
@@ -149,12 +152,21 @@ generation_settled m i (asked.KeyGenerate object bits) =
     made_settled (with_crypto m (drawn_for m.crypto wanted)) (objects_of m) i object (random_from m.crypto.random) wanted
 generation_settled m i ask = refl
 
+time_settled : {A : Type 0} (m : Machine A) (ask : Ask) → false ≡ comes_to_store (time_resolution m ask)
+time_settled m asked.SystemTime = refl
+time_settled {A} m (asked.SetAppTime seconds millis) =
+    let set : Resolution (Machine A) = Settled (Answered (record m { clock = with_own m.clock (record { seconds = seconds; millis = millis }) }) Done) in
+    elim (nat_lt millis MILLIS) as (λ b. false ≡ comes_to_store (cond b set (Settled Panicked))) [ true ↦ refl | false ↦ refl ]
+time_settled m asked.AppTime = refl
+time_settled m ask = refl
+
 family_comes : {A : Type 0} (family : Family) (m : Machine A) (i : ℕ) (r : ActiveEntry) (ask : Ask) → reaching_in_family family (objects_of m) m.crypto i
     ask ≡ comes_to_store (resolution_in_family family m i r ask)
 family_comes families.Entry m i r ask = entry_settled m r ask
 family_comes families.Objects m i r ask = comes_in m (object_resolution (objects_of m) i ask)
 family_comes families.Operations m i r ask = operation_comes m i (operation_resolution m.crypto i ask)
 family_comes families.Generation m i r ask = generation_settled m i ask
+family_comes families.Times m i r ask = time_settled m ask
 
 -- an ask comes to the store where it is said to
 pub reaching_is : {A : Type 0} (m : Machine A) (i : ℕ) (r : ActiveEntry) (ask : Ask) → reaches_store (objects_of m) m.crypto i r ask ≡ comes_to_store (resolution_after m i r ask)
@@ -198,6 +210,25 @@ entry_left {A} old new store doubt i r ask done family is =
     subst (λ (c : Resolution (Machine A)). IsLeft done.outcome (serve_outcome (serving_of done.kind) (machine_over old store doubt) ask c) new store doubt (machine_over old store doubt))
     (sym (of_family families.Entry (machine_over old store doubt) i r ask family ∙ entry_over store (doubtful old.in_doubt doubt) (machine_of old) r ask))
     (entry_in old new store doubt (serving_of done.kind) ask (entry_resolution (machine_of old) r ask) done.outcome is.outcome (ap (λ (s : AppSide A). s.in_doubt) is.rest))
+
+-- ---- asks about time do neither
+
+time_over : {A : Type 0} (store : Store) (doubt : Option Store) (m : Machine A) (ask : Ask) → time_resolution (over store doubt m) ask ≡ resolution_in (over store doubt) (time_resolution m ask)
+time_over store doubt m asked.SystemTime = refl
+time_over {A} store doubt m (asked.SetAppTime seconds millis) =
+    let set : Resolution (Machine A) = Settled (Answered (record m { clock = with_own m.clock (record { seconds = seconds; millis = millis }) }) Done) in
+    elim (nat_lt millis MILLIS) as (λ b. cond b (resolution_in (over store doubt) set) (Settled Panicked) ≡ resolution_in (over store doubt) (cond b set (Settled Panicked)))
+    [ true ↦ refl | false ↦ refl ]
+time_over store doubt m asked.AppTime = refl
+time_over store doubt m ask = refl
+
+pub time_left : {A : Type 0} (old new : AppSide A) (store doubt : Store) (i : ℕ) (r : ActiveEntry) (ask : Ask) (done : Served) → family_of ask ≡ families.Times →
+    IsEntryServed done (time_resolution (machine_of old) ask) old new
+    → IsLeft done.outcome (serve_outcome (serving_of done.kind) (machine_over old store doubt) ask (resolution (machine_over old store doubt) i r ask)) new store doubt (machine_over old store doubt)
+time_left {A} old new store doubt i r ask done family is =
+    subst (λ (c : Resolution (Machine A)). IsLeft done.outcome (serve_outcome (serving_of done.kind) (machine_over old store doubt) ask c) new store doubt (machine_over old store doubt))
+    (sym (of_family families.Times (machine_over old store doubt) i r ask family ∙ time_over store (doubtful old.in_doubt doubt) (machine_of old) ask))
+    (entry_in old new store doubt (serving_of done.kind) ask (time_resolution (machine_of old) ask) done.outcome is.outcome (ap (λ (s : AppSide A). s.in_doubt) is.rest))
 
 -- ---- what is noted
 

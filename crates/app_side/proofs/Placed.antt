@@ -1,6 +1,6 @@
 -- A turn doesn't look at whether the running entry was taken out of its instance.
 use Rattle.app_api.specs.Behaviours.{Behaviour}
-use Rattle.std.proofs.Common.{ℕ, ◌≡◌, ◌+◌, nat_le, Bool, true, false, cond, List, Option, None, Some, option_map, refl, sym, ◌∙◌, ap}
+use Rattle.std.proofs.Common.{ℕ, ◌≡◌, ◌+◌, nat_le, nat_lt, Bool, true, false, cond, List, Option, None, Some, option_map, refl, sym, ◌∙◌, ap}
 use Rattle.tee_base.specs.declared.limits.TheConstants.{MAX_ASKS}
 use Rattle.tee_base.specs.declared.codes.Code.{Code}
 use Rattle.tee_base.specs.declared.codes.Origin.TheVariants.{App, Tee}
@@ -41,6 +41,12 @@ use Rattle.alone.specs.Replies.{no_outputs}
 use Rattle.alone.specs.Step.{Stepped, after_ask, after_session, after_answer, after_destroy_begins, is_success, masked_again}
 use Rattle.alone.specs.Blocks.{given_params}
 use Rattle.alone.specs.Step.{after_start, no_replies, reply_of, after_return, serve_outcome, start_begun, store_left, torn_down, went_on, with_delivery}
+use Rattle.alone.specs.Step.{ask_counted, carried_out, waited}
+use Rattle.alone.specs.Times.{time_resolution}
+use Rattle.alone.specs.Waiting.{wait_of}
+use Rattle.app_api.specs.declared.ask.Answer.TheVariants.{Done}
+use Rattle.ticks_time.specs.Clock.{deadline_of, with_own}
+use Rattle.ticks_time.specs.declared.time.TheConstants.{MILLIS}
 use Rattle.alone.proofs.Lists.{put_put, filter_put}
 
 -- the instance without its running entry
@@ -146,12 +152,21 @@ generation_placed xs m i (asked.KeyGenerate object bits) =
     objects_placed xs (with_crypto m (drawn_for m.crypto (random_wanted m.held i object bits))) (generate_resolution (objects_of m) i object bits (random_from m.crypto.random))
 generation_placed xs m i ask = refl
 
+time_placed : {A : Type 0} (xs : List (Instance A)) (m : Machine A) (ask : Ask) → time_resolution (placed xs m) ask ≡ resolution_in (placed xs) (time_resolution m ask)
+time_placed xs m asked.SystemTime = refl
+time_placed {A} xs m (asked.SetAppTime seconds millis) =
+    let set : Resolution (Machine A) = Settled (Answered (record m { clock = with_own m.clock (record { seconds = seconds; millis = millis }) }) Done) in
+    elim (nat_lt millis MILLIS) as (λ b. cond b (resolution_in (placed xs) set) (Settled Panicked) ≡ resolution_in (placed xs) (cond b set (Settled Panicked))) [ true ↦ refl | false ↦ refl ]
+time_placed xs m asked.AppTime = refl
+time_placed xs m ask = refl
+
 family_placed : {A : Type 0} (family : Family) (xs : List (Instance A)) (m : Machine A) (i : ℕ) (r : ActiveEntry) (ask : Ask) →
     resolution_in_family family (placed xs m) i r ask ≡ resolution_in (placed xs) (resolution_in_family family m i r ask)
 family_placed families.Entry xs m i r ask = entry_placed xs m r ask
 family_placed families.Objects xs m i r ask = objects_placed xs m (object_resolution (objects_of m) i ask)
 family_placed families.Operations xs m i r ask = operated_placed xs m i (operation_resolution m.crypto i ask)
 family_placed families.Generation xs m i r ask = generation_placed xs m i ask
+family_placed families.Times xs m i r ask = time_placed xs m ask
 
 resolution_after_placed : {A : Type 0} (xs : List (Instance A)) (m : Machine A) (i : ℕ) (r : ActiveEntry) (ask : Ask)
     → resolution_after (placed xs m) i r ask ≡ resolution_in (placed xs) (resolution_after m i r ask)
@@ -230,12 +245,21 @@ generation_leaves serving m i (asked.KeyGenerate object bits) =
     made_leaves serving m (asked.KeyGenerate object bits) (drawn_for m.crypto wanted) (objects_of m) i object (random_from m.crypto.random) wanted
 generation_leaves serving m i ask = tt
 
+time_leaves : {A : Type 0} (serving : Serving) (m : Machine A) (ask : Ask) → Leaves m.instances (serve_outcome serving m ask (time_resolution m ask))
+time_leaves serving m asked.SystemTime = refl
+time_leaves {A} serving m (asked.SetAppTime seconds millis) =
+    let set : Resolution (Machine A) = Settled (Answered (record m { clock = with_own m.clock (record { seconds = seconds; millis = millis }) }) Done) in
+    elim (nat_lt millis MILLIS) as (λ b. Leaves m.instances (serve_outcome serving m (asked.SetAppTime seconds millis) (cond b set (Settled Panicked)))) [ true ↦ refl | false ↦ tt ]
+time_leaves serving m asked.AppTime = refl
+time_leaves serving m ask = tt
+
 family_leaves : {A : Type 0} (serving : Serving) (family : Family) (m : Machine A) (i : ℕ) (r : ActiveEntry) (ask : Ask)
     → Leaves m.instances (serve_outcome serving m ask (resolution_in_family family m i r ask))
 family_leaves serving families.Entry m i r ask = entry_leaves serving m r ask
 family_leaves serving families.Objects m i r ask = objects_leave serving m ask (object_resolution (objects_of m) i ask)
 family_leaves serving families.Operations m i r ask = operated_leaves serving m ask i (operation_resolution m.crypto i ask)
 family_leaves serving families.Generation m i r ask = generation_leaves serving m i ask
+family_leaves serving families.Times m i r ask = time_leaves serving m ask
 
 pub ask_leaves : {A : Type 0} (serving : Serving) (m : Machine A) (i : ℕ) (r : ActiveEntry) (ask : Ask) → Leaves m.instances (serve_outcome serving m ask (resolution_after m i r ask))
 ask_leaves {A} serving m i r ask =
@@ -252,13 +276,25 @@ acted_taken {A} m inst r (Answered after answer) leaves =
 acted_taken m inst r (Returned code outs) leaves = returned_taken m inst r.op r.stage code outs
 acted_taken m inst r Panicked leaves = ap (left_with (torn_down m inst.number TARGET_DEAD Tee)) (filter_put inst.number (emptied inst) m.instances refl)
 
+waited_taken : {A : Type 0} (m : Machine A) (inst : Instance A) (r : ActiveEntry) (deadline : Option ℕ) → waited (taken m inst) (emptied inst) r deadline ≡ waited m inst r deadline
+waited_taken m inst r deadline = ap (left_with (waited m inst r deadline)) (put_put _ (emptied inst) m.instances refl)
+
+carried_taken : {A : Type 0} (serving : Serving) (m : Machine A) (inst : Instance A) (r : ActiveEntry) (ask : Ask) (o : Option ℕ) →
+    carried_out serving (taken m inst) (emptied inst) r ask o ≡ carried_out serving m inst r ask o
+carried_taken {A} serving m inst r ask None =
+    let xs = put_instance (emptied inst) m.instances in
+    ap (λ (c : Resolution (Machine A)). after_ask (taken m inst) (emptied inst) (mask_noted r ask) (serve_outcome serving (placed xs m) ask c)) (resolution_after_placed xs m inst.number r ask)
+    ∙ ap (λ (o : Outcome (Machine A)). after_ask (taken m inst) (emptied inst) (mask_noted r ask) o) (served_placed serving xs m ask (resolution_after m inst.number r ask))
+    ∙ acted_taken m inst (mask_noted r ask) (serve_outcome serving m ask (resolution_after m inst.number r ask)) (ask_leaves serving m inst.number r ask)
+carried_taken {A} serving m inst r ask (Some ticks) =
+    same_choice (nat_le MAX_ASKS r.asks) _ _ _ _
+    (ap (left_with (torn_down m inst.number TARGET_DEAD Tee)) (filter_put inst.number (emptied inst) m.instances refl))
+    (waited_taken m inst (ask_counted r) (deadline_of m.clock ticks))
+
 pub went_on_taken : {A : Type 0} (behaviour : Behaviour A) (serving : Serving) (m : Machine A) (inst : Instance A) (r : ActiveEntry) (w : Waits) →
     went_on behaviour serving (taken m inst) (emptied inst) r w ≡ went_on behaviour serving m inst r w
 went_on_taken {A} behaviour serving m inst r (waits.Given given) =
     let s : Stepped A = went_on behaviour serving m inst r (waits.Given given) in
     ap (left_with s) (put_put _ (emptied inst) m.instances refl)
-went_on_taken {A} behaviour serving m inst r (waits.Ask ask) =
-    let xs = put_instance (emptied inst) m.instances in
-    ap (λ (c : Resolution (Machine A)). after_ask (taken m inst) (emptied inst) (mask_noted r ask) (serve_outcome serving (placed xs m) ask c)) (resolution_after_placed xs m inst.number r ask)
-    ∙ ap (λ (o : Outcome (Machine A)). after_ask (taken m inst) (emptied inst) (mask_noted r ask) o) (served_placed serving xs m ask (resolution_after m inst.number r ask))
-    ∙ acted_taken m inst (mask_noted r ask) (serve_outcome serving m ask (resolution_after m inst.number r ask)) (ask_leaves serving m inst.number r ask)
+went_on_taken behaviour serving m inst r (waits.Ask ask) = carried_taken serving m inst r ask (wait_of ask)
+went_on_taken behaviour serving m inst r (waits.Until deadline) = waited_taken m inst r deadline

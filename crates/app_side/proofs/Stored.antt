@@ -1,5 +1,5 @@
 -- Calls, beginnings and returns don't look at the objects, and leave them.
-use Rattle.std.proofs.Common.{ℕ, ◌≡◌, Bool, true, false, cond, ◌&&◌, List, [], ◌∷◌, Option, None, Some, Result, Ok, Err, is_some, refl, sym, ap, ◌∙◌}
+use Rattle.std.proofs.Common.{ℕ, ◌≡◌, Bool, true, false, cond, nat_le, ◌&&◌, List, [], ◌∷◌, Option, None, Some, Result, Ok, Err, is_some, refl, sym, ap, ◌∙◌}
 use Rattle.tee_base.specs.declared.codes.Code.{Code}
 use Rattle.app_api.specs.declared.out.Outs.{Outs}
 use Rattle.app_api.specs.declared.login.Login.{Login}
@@ -19,8 +19,13 @@ use Rattle.shared_mem.specs.declared.block.Block.{Block}
 use Rattle.shared_mem.specs.Blocks.{fill_of, share_of, show_of, unshare_of}
 use Rattle.store_api.specs.Stores.{Store, empty_store}
 use Rattle.alone.specs.declared.active_entry.Instance.{Instance}
+use Rattle.alone.specs.declared.active_entry.ActiveEntry.{ActiveEntry}
 use Rattle.alone.specs.declared.active_entry.EntryPoint.{EntryPoint}
+use Rattle.tee_base.specs.declared.limits.TheConstants.{MAX_ASKS}
 use Rattle.alone.specs.declared.active_entry.EntryPoint.TheVariants as stages
+use Rattle.alone.specs.declared.active_entry.Waits.{Waits}
+use Rattle.alone.specs.declared.active_entry.Waits.TheVariants as waits
+use Rattle.alone.specs.Waiting.{is_waiting, waits_at, waits_in, waits_so}
 use Rattle.alone.specs.Machine.{Machine}
 use Rattle.alone.specs.Asks.{cancel}
 use Rattle.alone.specs.Blocks.{references_refusal}
@@ -34,7 +39,7 @@ use Rattle.tee_base.specs.declared.codes.TheConstants.Code.{SUCCESS}
 use Rattle.alone.specs.Step.{Stepped, after_session, after_answer, with_next_begun, begun_with, after_call}
 use Rattle.alone.specs.Step.{after_start, block_shown, called_open, after_cancellation, cancelled_by, closed_at, closed_in, after_dropped_open, idle}
 use Rattle.alone.specs.Step.{invoked_at, invoked_in, invoked_with, is_success, is_unused, facts_of_label, memory_done, opened_as, opened_with}
-use Rattle.alone.specs.Step.{no_replies, reply_of, after_return, torn_down, waiting_open, with_delivery}
+use Rattle.alone.specs.Step.{no_replies, reply_of, after_return, torn_down, wait_begun, waiting_open, with_delivery}
 use Rattle.op_queue.specs.declared.operation.Cancelled.{Cancelled as Cancellation}
 use Rattle.op_queue.specs.declared.operation.Cancelled.TheVariants.{Dropped, Flagged, Nothing}
 use Rattle.app_side.specs.declared.side.AppSide.{AppSide}
@@ -167,6 +172,27 @@ returned_over store doubt m inst op (stages.Destroy reply) code outs = refl
 pub torn_over : {A : Type 0} (store : Store) (doubt : Option Store) (m : Machine A) (i : ℕ) (code : Code) (origin : Origin) →
     torn_down (over store doubt m) i code origin ≡ step_over store doubt (torn_down m i code origin)
 torn_over store doubt m i code origin = refl
+
+pub wait_begun_over : {A : Type 0} (store : Store) (doubt : Option Store) (m : Machine A) (inst : Instance A) (r : ActiveEntry) (ticks : ℕ) →
+    wait_begun (over store doubt m) inst r ticks ≡ step_over store doubt (wait_begun m inst r ticks)
+wait_begun_over store doubt m inst r ticks = chosen store doubt (nat_le MAX_ASKS r.asks) _ _ _ _ refl refl
+
+waits_so_over : {A : Type 0} (store : Store) (doubt : Option Store) (m : Machine A) (r : ActiveEntry) (w : Waits) → waits_so (over store doubt m) r w ≡ waits_so m r w
+waits_so_over store doubt m r (waits.Given given) = refl
+waits_so_over store doubt m r (waits.Ask ask) = refl
+waits_so_over store doubt m r (waits.Until deadline) = refl
+
+waits_in_over : {A : Type 0} (store : Store) (doubt : Option Store) (m : Machine A) (o : Option ActiveEntry) → waits_in (over store doubt m) o ≡ waits_in m o
+waits_in_over store doubt m None = refl
+waits_in_over store doubt m (Some r) = waits_so_over store doubt m r r.waits
+
+waits_at_over : {A : Type 0} (store : Store) (doubt : Option Store) (m : Machine A) (o : Option (Instance A)) → waits_at (over store doubt m) o ≡ waits_at m o
+waits_at_over store doubt m None = refl
+waits_at_over store doubt m (Some inst) = waits_in_over store doubt m inst.running
+
+-- whether an instance waits, neither
+pub waits_over : {A : Type 0} (store : Store) (doubt : Option Store) (m : Machine A) (i : ℕ) → is_waiting (over store doubt m) i ≡ is_waiting m i
+waits_over store doubt m i = waits_at_over store doubt m (instance_at m i)
 
 dropped_over : {A : Type 0} (store : Store) (doubt : Option Store) (m : Machine A) (o : Option (ℕ × ℕ)) → after_dropped_open (over store doubt m) o ≡ over store doubt (after_dropped_open m o)
 dropped_over store doubt m None = refl

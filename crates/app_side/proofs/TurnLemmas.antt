@@ -1,6 +1,6 @@
 -- From what a turn leaves of a value to what it leaves of the machines that the value stands for.
 use Rattle.app_api.specs.Behaviours.{Behaviour}
-use Rattle.std.proofs.Common.{ℕ, Bool, true, false, cond, is_some, None, ◌≡◌, ◌+◌, ◌∙◌, List, [], Option, Some, Result, Err, find, sym, ap, subst, refl}
+use Rattle.std.proofs.Common.{ℕ, Bool, true, false, cond, nat_le, is_some, None, ◌≡◌, ◌+◌, ◌∙◌, List, [], Option, Some, Result, Err, find, sym, ap, subst, refl}
 use Rattle.tee_base.specs.declared.bytes.NoMemory.{NoMemory}
 use Rattle.tee_base.specs.declared.codes.Code.{Code}
 use Rattle.app_api.specs.declared.out.Outs.{Outs}
@@ -34,7 +34,7 @@ use Rattle.alone.specs.Asks.{resolution_after, objects_of}
 use Rattle.alone.specs.Kinds.{kind_by}
 use Rattle.alone.specs.Machine.{Machine, is_number, with_instance}
 use Rattle.alone.specs.Step.{Stepped, after_ask, after_session, after_answer, with_next_begun, begun_with, after_destroy_begins, idle, is_success, is_changing, is_enabled}
-use Rattle.alone.specs.Step.{after_start, of_instance, of_running, of_waits, reaches, no_replies, after_return, step, after_app_step, torn_down, turned_as, with_delivery}
+use Rattle.alone.specs.Step.{after_start, of_instance, of_running, of_waits, reaches, no_replies, after_return, step, after_app_step, torn_down, turned_as, wait_begun, waited, with_delivery}
 use Rattle.app_side.specs.declared.side.AppSide.{AppSide}
 use Rattle.app_side.specs.Asking.{is_to_change, reaches_store}
 use Rattle.operation_asks.specs.Kept.{state_of}
@@ -45,7 +45,8 @@ use Rattle.app_side.specs.Serving.{IfStarved, IsTurnOf, StarvesAlike, TakesTurn}
 use Rattle.app_side.proofs.Carried.{reaching_is}
 use Rattle.alone.specs.declared.active_entry.Waits.{Waits}
 use Rattle.std.specs.Prelude.{◌&&◌, not}
-use Rattle.app_side.proofs.Stored.{begun_over, replies_over, returned_over, stands_over, torn_over}
+use Rattle.tee_base.specs.declared.limits.TheConstants.{MAX_ASKS}
+use Rattle.app_side.proofs.Stored.{begun_over, replies_over, returned_over, stands_over, torn_over, wait_begun_over}
 
 pub begins : {A : Type 0} (old new : AppSide A) (given : List Reply) (inst : Instance A) (store doubt : Store) → machine_of new ≡ with_next_begun (machine_of old) inst →
     given ≡ (no_replies (machine_of new)).replies → IsStep new store given (no_replies (with_next_begun (machine_over old store doubt) inst))
@@ -81,6 +82,33 @@ tears {A} old new given i code origin m store doubt is same = subst (λ (x : Mac
   machine = stands_over old new (λ (x : Machine A). torn_down x i code origin) (λ s d x. torn_over s d x i code origin) is.machine store doubt;
   replies = is.replies ∙ replies_over old (λ (x : Machine A). torn_down x i code origin) (λ s d x. torn_over s d x i code origin) store doubt;
 })
+
+-- an instance whose entry waits
+pub waits_on : {A : Type 0} (old new : AppSide A) (given : List Reply) (inst : Instance A) (r : ActiveEntry) (deadline : Option ℕ) (store doubt : Store) →
+    machine_of new ≡ (waited (machine_of old) inst r deadline).machine → given ≡ (no_replies (machine_of new)).replies →
+    IsStep new store given (waited (machine_over old store doubt) inst r deadline)
+waits_on {A} old new given inst r deadline store doubt is none = record {
+  doubt = doubt;
+  machine = stands_over old new (λ (m : Machine A). waited m inst r deadline) (λ s d m. refl) is store doubt;
+  replies = none;
+}
+
+-- an instance whose entry begins to wait
+pub waits_begun : {A : Type 0} (old new : AppSide A) (given : List Reply) (inst : Instance A) (r : ActiveEntry) (ticks : ℕ) (store doubt : Store) →
+    IsTurned new given (wait_begun (machine_of old) inst r ticks) → IsStep new store given (wait_begun (machine_over old store doubt) inst r ticks)
+waits_begun {A} old new given inst r ticks store doubt is = record {
+  doubt = doubt;
+  machine = stands_over old new (λ (m : Machine A). wait_begun m inst r ticks) (λ s d m. wait_begun_over s d m inst r ticks) is.machine store doubt;
+  replies = is.replies ∙ replies_over old (λ (m : Machine A). wait_begun m inst r ticks) (λ s d m. wait_begun_over s d m inst r ticks) store doubt;
+}
+
+pub wait_begun_lost : {A : Type 0} (old new : AppSide A) (given : List Reply) (inst : Instance A) (r : ActiveEntry) (ticks : ℕ) → IsTurned new given (wait_begun (machine_of old) inst r ticks)
+    → new.lost ≡ old.lost
+wait_begun_lost {A} old new given inst r ticks is = ap (λ (m : Machine A). m.lost) is.machine ∙ either (nat_le MAX_ASKS r.asks) _ _ refl refl
+  where
+    either : (b : Bool) (x y : Stepped A) → x.machine.lost ≡ old.lost → y.machine.lost ≡ old.lost → (cond b x y).machine.lost ≡ old.lost
+    either true x y ex ey = ex
+    either false x y ex ey = ey
 
 -- the running entry that is given this answer next
 abbrev pub answered_next : {A : Type 0} → Instance A → ActiveEntry → Answer → Instance A
@@ -186,6 +214,7 @@ torn_lost {A} old new given i code origin is = sym (ap (λ (m : Machine A). m.lo
 of_waits_same : (one other : ActiveEntry → Ask → Bool) (r : ActiveEntry) (w : Waits) → ((r : ActiveEntry) (ask : Ask) → one r ask ≡ other r ask) → of_waits one r w ≡ of_waits other r w
 of_waits_same one other r (waits.Given given) same = refl
 of_waits_same one other r (waits.Ask ask) same = same r ask
+of_waits_same one other r (waits.Until deadline) same = refl
 
 of_running_same : (one other : ActiveEntry → Ask → Bool) (o : Option ActiveEntry) → ((r : ActiveEntry) (ask : Ask) → one r ask ≡ other r ask) → of_running one o ≡ of_running other o
 of_running_same one other None same = refl

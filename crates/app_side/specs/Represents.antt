@@ -37,6 +37,7 @@ machine_of side = record {
   index = side.application;
   seed = side.seed;
   boot = side.boot;
+  clock = side.clock;
   table = side.sessions;
   instances = side.instances.items;
   queue = side.queue;
@@ -74,6 +75,10 @@ turns_of side = side.turns
 -- how often the power was lost
 abbrev pub boot_of : {A : Type 0} → AppSide A → ℕ
 boot_of side = side.boot
+
+-- how many ticks came
+abbrev pub ticks_in : {A : Type 0} → AppSide A → ℕ
+ticks_in side = side.clock.ticks
 
 -- a change is in doubt
 abbrev pub has_doubt : {A : Type 0} → AppSide A → Bool

@@ -33,17 +33,18 @@ in_doubt_by (Answered after answer) = after.in_doubt
 in_doubt_by (Returned code outs) = None
 in_doubt_by Panicked = None
 
--- what came of an ask about the entry itself: the stated outcome over the value, in which at most the queue has changed
+-- what came of an ask about the entry itself or about time: the stated outcome over the value, in which at most the queue and the clock
+-- have changed
 abbrev pub IsEntryOutcome : {A : Type 0} → Result_of → Resolution (Machine A) → AppSide A → AppSide A → Type 0
 IsEntryOutcome (outcomes.Answered answer) stated before after = stated ≡ Settled (Answered (machine_of after) answer)
 IsEntryOutcome (outcomes.Returned ending) stated before after = (stated ≡ Settled (Returned ending.code ending.outs)) × (after ≡ before)
 IsEntryOutcome outcomes.Panicked stated before after = (stated ≡ Settled Panicked) × (after ≡ before)
 
--- an ask about the entry itself was served: the turn is plain, the outcome the stated one, and at most the queue has changed
+-- such an ask was served: the turn is plain, the outcome the stated one, and at most the queue and the clock have changed
 pub record IsEntryServed {A : Type 0} (served : Served) (stated : Resolution (Machine A)) (before after : AppSide A) : Type 0 where
   pub kind : served.kind ≡ store_kinds.Plain
   pub outcome : IsEntryOutcome served.outcome stated before after
-  pub rest : after ≡ record before { queue = after.queue }
+  pub rest : after ≡ record before { queue = after.queue; clock = after.clock }
 
 module _ {D : Type 0} (K : Keeper D) where
   -- how the store did in a turn, where the ask that waits comes to it, and changes it, as these say: the value's own note of the

@@ -7,6 +7,7 @@ ghost use Rattle.operation_asks.specs.Kept.{state_of};
 ghost use Rattle.alone.specs.Families.{family_of};
 ghost use Rattle.alone.specs.Asks.{resolution, entry_resolution, flag_for, identity_answer, login_for, mask_for, mask_set_for};
 ghost use Rattle.alone.specs.Step.{serve_outcome};
+ghost use Rattle.alone.specs.Times.{answer_of_time, time_resolution};
 ghost use Rattle.app_side.specs.Asking.{entry_with_ask, reaching_in_family};
 ghost use Rattle.app_side.specs.Represents.{machine_of, after_store_kind};
 ghost use Rattle.app_side.specs.Serving.{CarriesOut, IsEntryServed};
@@ -18,6 +19,7 @@ use app_api::{Answer, Application, Ask, Login};
 use object_asks::{Served, TurnKind, answered, panicked, serve};
 use store_api::AppStore;
 use tee_base::{Code, NoMemory};
+use ticks_time::{MILLIS, Time, TimeAnswer};
 
 /// What an entry is answered that asks who the client is, where this is the login of its session.
 fn identity(login: Option<Login>) -> Answer
@@ -29,6 +31,18 @@ fn identity(login: Option<Login>) -> Answer
             login: login.number(),
             id: login.id(),
         },
+    }
+}
+
+/// What the application is told of a time.
+fn answer_of_time(told: Result<Time, TimeAnswer>) -> Answer
+    ensures { result ≡ answer_of_time told }
+{
+    match told {
+        Ok(Time { seconds, millis }) => Answer::Time { seconds, millis },
+        Err(TimeAnswer::NotSet) => Answer::Refused(Code::TIME_NOT_SET),
+        Err(TimeAnswer::NeedsReset) => Answer::Refused(Code::TIME_NEEDS_RESET),
+        Err(TimeAnswer::Overflow) => Answer::Refused(Code::OVERFLOW),
     }
 }
 
@@ -44,7 +58,7 @@ impl<A: Application> AppSide<A> {
     }
 
     /// Whether the entry reads that its operation was asked to be cancelled.
-    fn reads_flag(&self, op: Option<u64>) -> bool
+    pub(crate) fn reads_flag(&self, op: Option<u64>) -> bool
         ensures { result ≡ flag_for self.now.queue op }
     {
         match op {
@@ -104,7 +118,26 @@ impl<A: Application> AppSide<A> {
         }
     }
 
-    /// Carries out what the instance asks for in this entry.
+    /// Serves an ask about time. A wait doesn't come here, nor does an ask of another family.
+    fn serve_time(&mut self, ask: Ask) -> Served
+        ensures { IsEntryServed result
+            (time_resolution (machine_of self.old) ask) self.old self.new }
+    {
+        match ask {
+            Ask::SystemTime => answered(answer_of_time(self.clock.system())),
+            Ask::AppTime => answered(answer_of_time(self.clock.own())),
+            Ask::SetAppTime { seconds, millis } if millis < MILLIS => {
+                self.clock.set(Time { seconds, millis });
+                answered(Answer::Done)
+            }
+            _ => {
+                drop(ask);
+                panicked()
+            }
+        }
+    }
+
+    /// Carries out what the instance asks for in this entry. A wait doesn't come here.
     pub(crate) fn carry_out<T: AppStore>(
         &mut self,
         store: &mut T,
@@ -129,6 +162,7 @@ impl<A: Application> AppSide<A> {
             }
             Family::Operations => self.operate(store, instance, ask),
             Family::Generation => self.make_key(instance, ask),
+            Family::Times => Ok(self.serve_time(ask)),
         }
     }
 }

@@ -12,6 +12,7 @@ use operation_asks::Operations;
 use shared_mem::Blocks;
 use std::alloc::Global;
 use tee_base::{Bytes, Code, Origin};
+use ticks_time::Clock;
 
 /// A running application: its instances, its sessions, its unanswered operations, and what asks touch in memory. Its objects
 /// are kept elsewhere.
@@ -23,6 +24,7 @@ pub struct AppSide<A> {
     pub(crate) seed: [u8; 32],
     /// How often the power was lost.
     pub(crate) boot: u32,
+    pub(crate) clock: Clock,
     pub(crate) sessions: Instances,
     pub(crate) instances: Vec<Instance<A>>,
     pub(crate) queue: OpQueue,

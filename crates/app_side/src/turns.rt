@@ -9,11 +9,12 @@ ghost use Rattle.alone.specs.declared.active_entry.Waits.{Waits};
 ghost use Rattle.alone.specs.Asks.{mask_after};
 ghost use Rattle.operation_asks.specs.Kept.{state_of};
 ghost use Rattle.alone.specs.Machine.{is_number, with_instance};
-ghost use Rattle.alone.specs.Step.{with_next_begun, idle, of_instance, of_waits, after_app_step, turned_as, turned_by, went_on};
+ghost use Rattle.alone.specs.Step.{with_next_begun, idle, of_instance, of_waits, after_app_step, turned_as, turned_by, wait_begun, waited, went_on};
+ghost use Rattle.alone.specs.Waiting.{wait_goes, wait_of};
 ghost use Rattle.alone.specs.InList.{IsPlace};
-ghost use Rattle.app_side.specs.Represents.{machine_of, IsTornAlike};
+ghost use Rattle.app_side.specs.Represents.{machine_of, IsTornAlike, IsTurned};
 ghost use Rattle.app_side.specs.Serving.{AdvancesTurn, TakesTurn};
-ghost use Rattle.app_side.specs.Asking.{asked_turn, is_to_change, comes, given_next, reaches_store};
+ghost use Rattle.app_side.specs.Asking.{asked_turn, entry_with, is_to_change, comes, given_next, reaches_store};
 
 use crate::returns::set_running;
 use crate::side::AppSide;
@@ -40,6 +41,16 @@ fn mask_after(masked: bool, ask: &Ask) -> bool
         Ask::CancelMask => true,
         Ask::CancelUnmask => false,
         _ => masked,
+    }
+}
+
+/// How many ticks the ask is to wait, where it is one that waits.
+fn wait_of(ask: &Ask) -> Option<u32>
+    ensures { result ≡ wait_of ask.now }
+{
+    match ask {
+        Ask::Wait { ticks } => Some(*ticks),
+        _ => None,
     }
 }
 
@@ -146,7 +157,71 @@ impl<A: Application> AppSide<A> {
         set_running(&mut self.instances[place], Some(running));
     }
 
-    /// The entry's ask is carried out.
+    /// What waits next in an entry of this operation that waits for this deadline.
+    fn wait_goes(&self, op: Option<u64>, deadline: Option<u64>) -> Waits
+        ensures { result ≡ wait_goes (machine_of self.now) op deadline }
+    {
+        if self.reads_flag(op) {
+            return Waits::Given(Given::Answer(Answer::Refused(Code::CANCEL)));
+        }
+        if self.clock.due(deadline) {
+            return Waits::Given(Given::Answer(Answer::Done));
+        }
+        Waits::Until(deadline)
+    }
+
+    /// The entry is on a wait for this deadline, which it keeps while the wait goes on.
+    fn wait(&mut self, place: usize, number: u8, entry: Entered, deadline: Option<u64>)
+        requires { IsPlace number self.old.instances.items place }
+        ensures { (inst : Instance A) → find (is_number number) self.old.instances.items ≡ Some inst
+            → (waits : Waits)
+            → machine_of self.new ≡ (waited (machine_of self.old) inst
+            (entry_with entry waits) deadline).machine }
+    {
+        let waits = self.wait_goes(entry.op, deadline);
+        let running = ActiveEntry {
+            op: entry.op,
+            stage: entry.stage,
+            waits,
+            asks: entry.asks,
+            masked: entry.masked,
+        };
+        set_running(&mut self.instances[place], Some(running));
+    }
+
+    /// The entry begins to wait for so many ticks: the deadline is fixed, and the ask is counted.
+    fn begin_wait(
+        &mut self,
+        place: usize,
+        number: u8,
+        entry: Entered,
+        ticks: u32,
+        replies: &mut Replies,
+    )
+        requires place { IsPlace number self.old.instances.items place }
+        requires none { replies.old ≡ [] }
+        ensures { (inst : Instance A) → find (is_number number) self.old.instances.items ≡ Some inst
+            → (waits : Waits)
+            → IsTurned self.new replies.new (wait_begun (machine_of self.old) inst
+            (entry_with entry waits) ticks) }
+    {
+        if entry.asks >= limits::MAX_ASKS {
+            drop(entry);
+            self.tear_down(number, Code::TARGET_DEAD, Origin::Tee, replies);
+            return;
+        }
+        let deadline = self.clock.deadline(ticks);
+        let asks = entry.asks + 1;
+        let counted = Entered {
+            op: entry.op,
+            stage: entry.stage,
+            asks,
+            masked: entry.masked,
+        };
+        self.wait(place, number, counted, deadline);
+    }
+
+    /// The entry's ask is carried out, which isn't one to wait.
     fn act<T: AppStore>(
         &mut self,
         store: &mut T,
@@ -159,7 +234,7 @@ impl<A: Application> AppSide<A> {
         requires place { IsPlace number self.old.instances.items place }
         requires none { replies.old ≡ [] }
         ensures { (inst : Instance A) → find (is_number number) self.old.instances.items ≡ Some inst
-            → TakesTurn T.keeper (λ serving m. asked_turn A.behaviour serving m inst entry ask)
+            → TakesTurn T.keeper (λ serving m. asked_turn serving m inst entry ask)
             (comes self.old number (T.keeper.contents store.old) entry ask)
             (changes_store ask) number result self.old self.new replies.new store.old store.new }
     {
@@ -229,7 +304,18 @@ impl<A: Application> AppSide<A> {
                 self.think(place, number, entry, given)?;
                 Ok(TurnKind::Plain)
             }
-            Waits::Ask(ask) => self.act(store, place, number, entry, ask, replies),
+            Waits::Ask(ask) => match wait_of(&ask) {
+                Some(ticks) => {
+                    drop(ask);
+                    self.begin_wait(place, number, entry, ticks, replies);
+                    Ok(TurnKind::Plain)
+                }
+                None => self.act(store, place, number, entry, ask, replies),
+            },
+            Waits::Until(deadline) => {
+                self.wait(place, number, entry, deadline);
+                Ok(TurnKind::Plain)
+            }
         }
     }
 

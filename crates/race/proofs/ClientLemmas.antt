@@ -59,6 +59,7 @@ wish_there app client (lines.Turns a c instance count) own = (Turns instance cou
 wish_there app client (lines.Cancel a c op) own = (Cancels op, refl)
 wish_there app client (lines.Fuse calls) own = absurd (let e : false ≡ true = own in cc)
 wish_there app client (lines.Power pick) own = absurd (let e : false ≡ true = own in cc)
+wish_there app client (lines.Tick ticks) own = absurd (let e : false ≡ true = own in cc)
 
 first_of_both : (x y : Bool) → (x && y) ≡ true → x ≡ true
 first_of_both true y both = refl
@@ -76,6 +77,7 @@ of_one_app app other client (lines.Turns a c instance count) own apart = not_equ
 of_one_app app other client (lines.Cancel a c op) own apart = not_equal a app other (c == client) own apart
 of_one_app app other client (lines.Fuse calls) own apart = refl
 of_one_app app other client (lines.Power pick) own apart = refl
+of_one_app app other client (lines.Tick ticks) own apart = refl
 
 if_some : {X : Type 0} (P : X → Type 0) (o : Option X) (x : X) → o ≡ Some x → IfSome o P → P x
 if_some P None x is some = absurd (let e : None ≡ Some x = is in cc)

@@ -1,7 +1,7 @@
 -- How the entries of a client grow with a log, and what its lines have of them then.
 use Rattle.app_api.specs.Behaviours.{Behaviour}
 use Rattle.std.proofs.Common.{◌≡◌, ◌++◌, ◌==◌, ◌&&◌, ◌∙◌, ◌⊎◌, ℕ, Bool, true, false, not, List, [], ◌∷◌, Option, None, Some, cond, if◌then◌else◌}
-use Rattle.std.proofs.Common.{find, is_some, refl, sym, subst, ap, inl, inr, ⊎_elim, append-nil, append_assoc, eq-eqb}
+use Rattle.std.proofs.Common.{find, is_some, refl, sym, subst, ap, inl, inr, ⊎_elim, append-nil, append_assoc, eq-eqb, arith}
 use Rattle.std.proofs.lemmas.List.Elements.{filter-append}
 use Rattle.std.proofs.lemmas.List.Folds.{find-append}
 use Rattle.std.specs.List.{AllByRecursion}
@@ -16,7 +16,7 @@ use Rattle.alone.specs.Step.{Event, Lost}
 use Rattle.app_side.specs.Represents.{event_of}
 use Rattle.shared_parts.specs.HostedApps.{reply_in}
 use Rattle.shared_parts.specs.StorageTurns.{MakesTurn}
-use Rattle.race.specs.Following.{AreMade, AreTurns, Follows, FollowsCut, Grows, IsCut, IsMade, LossesStand, Placed}
+use Rattle.race.specs.Following.{AreFound, AreMade, AreTurns, Follows, FollowsCut, Grows, IsCut, IsMade, LossesStand, Placed, WaitsIn, instance_at}
 use Rattle.race.specs.Following.{is_found_loss, is_own, is_replied, is_turn, is_turn_of, log_at, number_at, placed_by, turn_comes}
 use Rattle.race.specs.Wishes.{Wish, Calls, Turns, Cancels}
 
@@ -30,7 +30,7 @@ none_behind : {X : Type 0} (xs ys : List X) → xs ++ ys ≡ xs → ys ≡ []
 none_behind [] ys same = same
 none_behind (x ∷ xs) ys same = none_behind xs ys (let e : x ∷ (xs ++ ys) ≡ x ∷ xs = same in cc)
 
-all_with : {X : Type 0} (P : X → Type 0) (xs : List X) (x : X) → AllByRecursion P xs → P x → AllByRecursion P (xs ++ x ∷ [])
+pub all_with : {X : Type 0} (P : X → Type 0) (xs : List X) (x : X) → AllByRecursion P xs → P x → AllByRecursion P (xs ++ x ∷ [])
 all_with P [] x all here = (here, tt)
 all_with P (y ∷ xs) x all here = (all.0, all_with P xs x all.1 here)
 
@@ -151,6 +151,8 @@ pub record TurnPlaced (client : ℕ) (event : Event) (old new : List Logged) : T
   pub grows : Grows client old new (one ∷ [])
   pub event_is : one.entry.event ≡ event
   pub within : IsPrefix one.before new
+  -- a loss that it found may stand right before it
+  pub stands : (loss : List Logged) × AreFound client loss × (one.before ≡ old ++ loss)
 
 module _ (client : ℕ) (event : Event) (replies : List Reply) (turn : is_turn event ≡ true) (none : is_found_loss event ≡ false) where
   abbrev loss_made : Logged
@@ -199,6 +201,7 @@ module _ (client : ℕ) (event : Event) (turn : is_turn event ≡ true) (none : 
         grows = subst (λ (ls : List Logged). Grows client old ls (placed old e ∷ [])) (sym all) g;
         event_is = refl;
         within = (e ∷ [], sym all);
+        stands = ([], (tt, omega arith), sym (append-nil old));
       }
 
   turn_found : (mid : List Logged) → (a : Adds client event mid new) → mid ≡ old ++ entry client Lost [] ∷ [] → TurnPlaced client event old new
@@ -211,6 +214,7 @@ module _ (client : ℕ) (event : Event) (turn : is_turn event ≡ true) (none : 
         grows = subst (λ (ls : List Logged). Grows client old ls (placed found e ∷ [])) (sym all) (grows_found client event a.replies turn none old);
         event_is = refl;
         within = (e ∷ [], sym all);
+        stands = (entry client Lost [] ∷ [], ((ap (λ (o : Bool). o && true) (self client), tt), omega arith), refl);
       }
 
   pub turn_placed : MakesTurn client event old new → TurnPlaced client event old new
@@ -264,7 +268,15 @@ module _ {A : Type 0} (behaviour : Behaviour A) (m : Machine A) (client : ℕ) w
   made_later : (wish : Wish) (made : List Placed) (log new : List Logged) → IsPrefix log new → IsMade behaviour m client wish made log → IsMade behaviour m client wish made new
   made_later (Calls true call) made log new p is = is
   made_later (Calls false call) made log new p is =
-      record { called = is.called; answered = replied_later (number_at behaviour m client is.called.first.before) log new p is.answered }
+      record {
+        called = is.called;
+        ended = ⊎_elim
+            (λ (replied : is_replied (number_at behaviour m client is.called.first.before) log ≡ true).
+            inl (replied_later (number_at behaviour m client is.called.first.before) log new p replied))
+            (λ (waits : WaitsIn behaviour m client (instance_at behaviour m client is.called.first.before call) made log).
+            inr (record { place = waits.place; within = prefix_trans waits.place log new waits.within p; after = waits.after; waits = waits.waits }))
+            is.ended;
+      }
   made_later (Turns instance count) made log new p is = is
   made_later (Cancels op) made log new p is = is
 

@@ -19,13 +19,15 @@ use Rattle.shared_parts.specs.StorageParts.{IsMarked}
 use Rattle.shared_parts.specs.declared.recorded.Posted.{Posted}
 use Rattle.shared_parts.specs.declared.recorded.SharedAnswer.{SharedAnswer}
 use Rattle.shared_parts.specs.declared.recorded.SharedAnswer.TheVariants as answers
+use Rattle.shared_tee.specs.Passes.{FindsOwnCellTaken, TellsWait}
 use Rattle.shared_tee.specs.Passes.{FindsNothing, GoesOnBy, IsPassOf, IsRefused, IsTurnRefused, Makes, MakesOneTurn, MissesOwnCell, OthersWentOn, PassView, Places, Posts, log_of, origin_in}
-use Rattle.race.proofs.FollowLemmas.{event_is_turn, grows_by_event, grows_by_others, grows_then, turn_placed, turns_more, unreplied_before}
-use Rattle.race.specs.Following.{Grows, Placed}
+use Rattle.race.proofs.IdleLemmas.{no_idle, stands}
+use Rattle.race.proofs.FollowLemmas.{all_with, event_is_turn, grows_by_event, grows_by_others, grows_then, turn_placed, turns_more, unreplied_before}
+use Rattle.race.specs.Following.{Grows, IsNoIdleTurn, Placed, TurnStands}
 use Rattle.race.specs.Following.{instance_at, is_found_loss, is_replied, is_turn_of, late_for, number_at}
 use Rattle.race.specs.declared.client.Stopped.{Stopped}
 use Rattle.race.specs.declared.client.Stopped.TheVariants as stops
-use Rattle.race.specs.Clients.{Awaits, GoesBy, IsFullFor, IsStopFor, IsStopOf, KnowsMore, MakesOnce, MayTurn, NamesCell, PostsOnce, TurnsOnce, WhereMarked}
+use Rattle.race.specs.Clients.{Awaits, GoesBy, HasEnded, IsFullFor, IsStopFor, IsStopOf, KnowsMore, MakesOnce, MayTurn, NamesCell, PostsOnce, TurnsNext, TurnsOnce, WhereMarked}
 
 pub err_is : {X Y : Type 0} (P : Y → Type 0) (r : Result X Y) (e : Y) → r ≡ Err e → P e → IfErr r P
 err_is P r e is here = subst (λ x. IfErr x P) (sym is) here
@@ -142,6 +144,12 @@ module _ {V A : Type 0} where
   unfound_names answers.LogFull p q k r = absurd r
   unfound_names answers.NoMemory p q k r = tt
 
+  -- a look for a wait that found the application's cell taken
+  pub taken_goes : (why : SharedAnswer) (p q : PassView V A) → KnowsMore p q → FindsOwnCellTaken why p q → GoesBy [] p q
+  taken_goes (answers.Busy busy) p q k r = missed_goes busy.word p q k r.2
+  taken_goes answers.LogFull p q k r = absurd r
+  taken_goes answers.NoMemory p q k r = absurd r
+
   -- a call that was refused, and then a wait
   pub waits_on : (p q r s : PassView V A) → GoesBy [] p q → GoesBy [] q r → GoesBy [] r s → GoesBy [] p s
   waits_on p q r s f g h = goes_on p r s [] (goes_on p q r [] f g) h
@@ -224,64 +232,83 @@ module _ {V A : Type 0} where
   pub makes_then : (event : Event) (p q r : PassView V A) → GoesBy [] p q → MakesOnce event q r → MakesOnce event p r
   makes_then event p q r f x = record { one = x.one; goes = goes_then p q r [] (x.one ∷ []) f x.goes; event_is = x.event_is }
 
-  pub turns_once : (kind : TurnKind) (i : ℕ) (p q : PassView V A) → KnowsMore p q → MakesOneTurn (event_of kind i) p q → TurnsOnce i p q
-  turns_once kind i p q k makes =
+  pub turns_next : (kind : TurnKind) (i : ℕ) (p q : PassView V A) → KnowsMore p q → MakesOneTurn (event_of kind i) p q → TurnsNext i p q
+  turns_next kind i p q k makes =
       let is = event_is_turn kind i in
       let t = turn_placed p.client (event_of kind i) is.0 is.1 makes.before (log_of q) makes.makes in
       record {
-        one = t.one;
-        goes = record {
-          knows = k;
-          grows = grows_then p.client (log_of p) makes.before (log_of q) [] (t.one ∷ [])
-              (grows_by_others p.client (log_of p) makes.before makes.others.goes_on makes.others.none_own) t.grows;
+        turns = record {
+          one = t.one;
+          goes = record {
+            knows = k;
+            grows = grows_then p.client (log_of p) makes.before (log_of q) [] (t.one ∷ [])
+                (grows_by_others p.client (log_of p) makes.before makes.others.goes_on makes.others.none_own) t.grows;
+          };
+          turn = ap (λ e. is_turn_of i e) t.event_is ∙ is.2;
+          within = t.within;
         };
-        turn = ap (λ e. is_turn_of i e) t.event_is ∙ is.2;
-        within = t.within;
+        stands = subst (λ (ls : List Logged). TurnStands p.client (log_of p) ls) (sym t.stands.2)
+            (stands p.client (log_of p) makes.before t.stands.0 makes.others.goes_on makes.others.none_own t.stands.1);
       }
 
   pub turns_then : (i : ℕ) (p q r : PassView V A) → GoesBy [] p q → TurnsOnce i q r → TurnsOnce i p r
   turns_then i p q r f x = record { one = x.one; goes = goes_then p q r [] (x.one ∷ []) f x.goes; turn = x.turn; within = x.within }
 
-  -- ---- turns until a reply comes
+  -- ---- turns until a reply comes, or the instance waits
 
-  -- turns were made so far, none of them late where the log has no reply
-  pub record Awaiting (op instance : ℕ) (p q : PassView V A) : Type 0 where
-    pub awaits : Awaits op instance p q
-    pub early : is_replied op (log_of q) ≡ false → late_for op awaits.turns ≡ []
+  module _ (K : VolumeKeeper V) (behaviour : Behaviour A) where
+    -- turns were made so far, none of them late where the log has no reply
+    pub record Awaiting (op instance : ℕ) (p q : PassView V A) : Type 0 where
+      pub awaits : Awaits K behaviour op instance p q
+      pub early : is_replied op (log_of q) ≡ false → late_for op awaits.turns ≡ []
 
-  pub awaiting_first : (op i : ℕ) (p : PassView V A) → Awaiting op i p p
-  awaiting_first op i p = record {
-    awaits = record { turns = []; goes = goes_refl p; are_turns = tt; one_late = omega arith };
-    early = λ none. refl;
-  }
+    pub awaiting_first : (op i : ℕ) (p : PassView V A) → Awaiting op i p p
+    awaiting_first op i p = record {
+      awaits = record { turns = []; goes = goes_refl p; are_turns = tt; one_late = omega arith; none_idle = λ origin is marked. tt };
+      early = λ none. refl;
+    }
 
-  -- what was made stays what it is while others go on
-  abbrev pub awaits_on : (op i : ℕ) (p q r : PassView V A) → Awaits op i p q → GoesBy [] q r → Awaits op i p r
-  awaits_on op i p q r a g = record { turns = a.turns; goes = goes_on p q r a.turns a.goes g; are_turns = a.are_turns; one_late = a.one_late }
+    -- what was made stays what it is while others go on
+    abbrev pub awaits_on : (op i : ℕ) (p q r : PassView V A) → Awaits K behaviour op i p q → GoesBy [] q r → Awaits K behaviour op i p r
+    awaits_on op i p q r a g =
+        record { turns = a.turns; goes = goes_on p q r a.turns a.goes g; are_turns = a.are_turns; one_late = a.one_late; none_idle = a.none_idle }
 
-  pub awaiting_on : (op i : ℕ) (p q r : PassView V A) → Awaiting op i p q → GoesBy [] q r → Awaiting op i p r
-  awaiting_on op i p q r a g = record {
-    awaits = awaits_on op i p q r a.awaits g;
-    early = λ none. a.early (unreplied_before op (log_of q) (log_of r) g.grows.goes_on none);
-  }
+    pub awaiting_on : (op i : ℕ) (p q r : PassView V A) → Awaiting op i p q → GoesBy [] q r → Awaiting op i p r
+    awaiting_on op i p q r a g = record {
+      awaits = awaits_on op i p q r a.awaits g;
+      early = λ none. a.early (unreplied_before op (log_of q) (log_of r) g.grows.goes_on none);
+    }
 
-  -- a turn more, where the log had no reply
-  pub awaiting_more : (op i : ℕ) (p q r : PassView V A) → Awaiting op i p q → is_replied op (log_of q) ≡ false → TurnsOnce i q r → Awaiting op i p r
-  awaiting_more op i p q r a none t =
-      let so_far = a.awaits.turns in
-      let late : late_for op (so_far ++ t.one ∷ []) ≡ cond (is_replied op t.one.before) (t.one ∷ []) [] =
-      filter-append (λ (x : Placed). is_replied op x.before) so_far (t.one ∷ []) ∙ ap (λ (ps : List Placed). ps ++ cond (is_replied op t.one.before) (t.one ∷ []) []) (a.early none) in
-      record {
-        awaits = record {
-          turns = so_far ++ t.one ∷ [];
-          goes = goes_then p q r so_far (t.one ∷ []) a.awaits.goes t.goes;
-          are_turns = turns_more i so_far t.one a.awaits.are_turns t.turn;
-          one_late = subst (λ (ps : List Placed). length ps ≤ 1) (sym late) (one_late_at_most (is_replied op t.one.before) t.one);
-        };
-        early = λ still. late ∙ ap (λ (b : Bool). cond b (t.one ∷ []) []) (unreplied_before op t.one.before (log_of r) t.within still);
-      }
+    -- a turn more, where none so far was late and the instance didn't wait in the log
+    pub awaiting_more : (op i : ℕ) (p q r : PassView V A) → (a : Awaits K behaviour op i p q) → late_for op a.turns ≡ [] → TellsWait K behaviour false i q → TurnsNext i q r → Awaiting op i p r
+    awaiting_more op i p q r a none calm t =
+        let one = t.turns.one in
+        let so_far = a.turns in
+        let client : q.client ≡ p.client = a.goes.knows.client in
+        let late : late_for op (so_far ++ one ∷ []) ≡ cond (is_replied op one.before) (one ∷ []) [] =
+        filter-append (λ (x : Placed). is_replied op x.before) so_far (one ∷ []) ∙ ap (λ (ps : List Placed). ps ++ cond (is_replied op one.before) (one ∷ []) []) none in
+        record {
+          awaits = record {
+            turns = so_far ++ one ∷ [];
+            goes = goes_then p q r so_far (one ∷ []) a.goes t.turns.goes;
+            are_turns = turns_more i so_far one a.are_turns t.turns.turn;
+            one_late = subst (λ (ps : List Placed). length ps ≤ 1) (sym late) (one_late_at_most (is_replied op one.before) one);
+            none_idle = λ origin is marked.
+                let there = origin_later p.seat.trail q.seat.trail origin a.goes.knows.trail is in
+                let idle : IsNoIdleTurn behaviour origin.machine q.client i one =
+                no_idle behaviour origin.machine q.client i (log_of q) one (sym (calm origin there marked)) t.stands in
+                all_with (IsNoIdleTurn behaviour origin.machine p.client i) so_far one (a.none_idle origin is marked)
+                (subst (λ c. IsNoIdleTurn behaviour origin.machine c i one) client idle);
+          };
+          early = λ still. late ∙ ap (λ (b : Bool). cond b (one ∷ []) []) (unreplied_before op one.before (log_of r) t.turns.within still);
+        }
 
-  -- a try that may have made one
-  pub awaiting_tried : (op i : ℕ) (made : Bool) (p q r : PassView V A) → Awaiting op i p q → is_replied op (log_of q) ≡ false → MayTurn made i q r → Awaiting op i p r
-  awaiting_tried op i true p q r a none t = awaiting_more op i p q r a none t
-  awaiting_tried op i false p q r a none g = awaiting_on op i p q r a g
+    -- a try that may have made one
+    pub awaiting_tried : (op i : ℕ) (made : Bool) (p q r : PassView V A) → (a : Awaits K behaviour op i p q) → late_for op a.turns ≡ [] → TellsWait K behaviour false i q → MayTurn made i q r
+        → Awaiting op i p r
+    awaiting_tried op i true p q r a none calm t = awaiting_more op i p q r a none calm t
+    awaiting_tried op i false p q r a none calm g = record { awaits = awaits_on op i p q r a g; early = λ _. none }
+
+    -- the instance waits in what it knows
+    pub ended_waiting : (op i : ℕ) (p : PassView V A) → TellsWait K behaviour true i p → HasEnded K behaviour op i p
+    ended_waiting op i p told = inr (λ origin is marked. sym (told origin is marked))

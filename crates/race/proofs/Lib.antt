@@ -10,6 +10,7 @@ mod FirstLemmas
 mod FollowLemmas
 mod FreshLemmas
 mod GoLemmas
+mod IdleLemmas
 mod LineLemmas
 mod LogLemmas
 mod OutcomeLemmas

@@ -1,6 +1,6 @@
 -- The entries of one line, as its calls leave them.
 use Rattle.app_api.specs.Behaviours.{Behaviour}
-use Rattle.std.proofs.Common.{◌≡◌, ◌≤◌, ◌+◌, ◌++◌, ◌∙◌, ℕ, true, false, List, [], ◌∷◌, Result, Ok, Err, IfErr, OnOk, length, refl, subst, ap, inl, inr, arith, length-append}
+use Rattle.std.proofs.Common.{◌≡◌, ◌≤◌, ◌+◌, ◌++◌, ◌∙◌, ℕ, true, false, List, [], ◌∷◌, Result, Ok, Err, IfErr, OnOk, length, refl, subst, ap, inl, inr, ⊎_elim, arith, length-append}
 use Rattle.store_api.specs.Volumes.{VolumeKeeper}
 use Rattle.app_api.specs.declared.call.Call.{Call}
 use Rattle.alone.specs.Logs.{bytes_of_call}
@@ -8,11 +8,16 @@ use Rattle.alone.specs.Step.{Cancelled}
 use Rattle.shared_parts.specs.declared.recorded.Posted.{Posted}
 use Rattle.shared_tee.specs.Passes.{PassView, log_of}
 use Rattle.race.proofs.FollowLemmas.{turns_more}
-use Rattle.race.proofs.GoLemmas.{fuller_for, goes_on, goes_refl, goes_then}
+use Rattle.std.specs.List.{AllByRecursion}
+use Rattle.turn_cell.proofs.Segments.{prefix_refl}
+use Rattle.alone.specs.Logs.{machine_by}
+use Rattle.alone.specs.Waiting.{is_waiting}
+use Rattle.race.proofs.GoLemmas.{fuller_for, goes_on, goes_refl, goes_then, origin_later}
+use Rattle.race.proofs.IdleLemmas.{made_inside}
 use Rattle.race.specs.declared.client.Stopped.{Stopped}
-use Rattle.race.specs.Following.{AreTurns, IsCalled, Placed, is_replied, late_for}
+use Rattle.race.specs.Following.{AreTurns, IsCalled, IsNoIdleTurn, Placed, WaitsIn, is_replied, late_for}
 use Rattle.race.specs.Wishes.{Wish, Calls, Turns, Cancels, bytes_of_wish}
-use Rattle.race.specs.Clients.{Awaits, GoesBy, IsFullFor, IsStopFor, MakesLine, MakesOnce, PostsOnce, StopsAt, TurnsOnce, WhereMarked}
+use Rattle.race.specs.Clients.{Awaits, GoesBy, HasEnded, IsFullFor, IsStopFor, MakesLine, MakesOnce, PostsOnce, StopsAt, TurnsOnce, WhereMarked}
 
 pub on_ok_map : {X Y : Type 0} {P Q : Type 0} (r : Result X Y) → (P → Q) → OnOk r P → OnOk r Q
 on_ok_map (Ok x) f is = f is
@@ -57,7 +62,7 @@ module _ {V A : Type 0} where
       is_made = λ origin is marked. record { one = x.one; made_is = refl; event_is = x.event };
     }
 
-    module _ (call : Call) (posted : Posted) (p q r : PassView V A) (x : PostsOnce K behaviour call posted p q) (a : Awaits posted.op posted.instance q r) where
+    module _ (call : Call) (posted : Posted) (p q r : PassView V A) (x : PostsOnce K behaviour call posted p q) (a : Awaits K behaviour posted.op posted.instance q r) where
       abbrev call_made : WhereMarked K p (λ m. IsCalled behaviour m p.client call (x.one ∷ a.turns))
       call_made = λ origin is marked. record {
         first = x.one;
@@ -66,18 +71,33 @@ module _ {V A : Type 0} where
         event = x.event;
         are_turns = subst (λ i. AreTurns i a.turns) (x.instance origin is marked) a.are_turns;
         one_late = subst (λ o. length (late_for o a.turns) ≤ 1) (x.op origin is marked) a.one_late;
+        none_idle =
+            let later = origin_later p.seat.trail q.seat.trail origin x.goes.knows.trail is in
+            subst (λ i. AllByRecursion (IsNoIdleTurn behaviour origin.machine p.client i) a.turns) (x.instance origin is marked)
+            (subst (λ c. AllByRecursion (IsNoIdleTurn behaviour origin.machine c posted.instance) a.turns) x.goes.knows.client (a.none_idle origin later marked));
       }
 
       call_goes : GoesBy (x.one ∷ a.turns) p r
       call_goes = goes_then p q r (x.one ∷ []) a.turns x.goes a.goes
 
-      pub line_answered : is_replied posted.op (log_of r) ≡ true → MakesLine K behaviour (Calls false call) p r
-      line_answered replied = record {
+      pub line_over : HasEnded K behaviour posted.op posted.instance r → MakesLine K behaviour (Calls false call) p r
+      line_over ended = record {
         made = x.one ∷ a.turns;
         goes = call_goes;
         is_made = λ origin is marked. record {
           called = call_made origin is marked;
-          answered = subst (λ o. is_replied o (log_of r) ≡ true) (x.op origin is marked) replied;
+          ended = ⊎_elim
+              (λ (replied : is_replied posted.op (log_of r) ≡ true). inl (subst (λ o. is_replied o (log_of r) ≡ true) (x.op origin is marked) replied))
+              (λ (waits : WhereMarked K r (λ m. is_waiting (machine_by behaviour m (log_of r)) posted.instance ≡ true)).
+              let later = origin_later p.seat.trail r.seat.trail origin call_goes.knows.trail is in
+              let here : WaitsIn behaviour origin.machine p.client posted.instance (x.one ∷ a.turns) (log_of r) = record {
+                place = log_of r;
+                within = prefix_refl (log_of r);
+                after = made_inside p.client (log_of p) (log_of r) (x.one ∷ a.turns) call_goes.grows.adds;
+                waits = waits origin later marked;
+              } in
+              inr (subst (λ i. WaitsIn behaviour origin.machine p.client i (x.one ∷ a.turns) (log_of r)) (x.instance origin is marked) here))
+              ended;
         };
       }
 

@@ -4,9 +4,11 @@ use Rattle.std.specs.Prelude.{ℕ, ◌≡◌, ◌≤◌, ◌⊎◌, Bool, true, 
 use mathlib.Core.List.{IsPrefix}
 use Rattle.app_api.specs.declared.call.Call.{Call}
 use Rattle.store_api.specs.Volumes.{VolumeKeeper}
-use Rattle.alone.specs.Logs.{Logged, is_full}
+use Rattle.std.specs.List.{AllByRecursion}
+use Rattle.alone.specs.Logs.{Logged, is_full, machine_by}
 use Rattle.alone.specs.Machine.{Machine}
 use Rattle.alone.specs.Step.{Event, Called}
+use Rattle.alone.specs.Waiting.{is_waiting}
 use Rattle.shared_parts.specs.HostedApps.{Origin}
 use Rattle.shared_parts.specs.StorageParts.{IsMarked}
 use Rattle.shared_parts.specs.declared.recorded.Posted.{Posted}
@@ -17,7 +19,8 @@ use Rattle.shared_tee.specs.declared.names.TheConstants.{STORAGE_CELL}
 use Rattle.script.specs.declared.line.Line.{Line}
 use Rattle.race.specs.declared.client.Stopped.{Stopped}
 use Rattle.race.specs.declared.client.Stopped.TheVariants as stops
-use Rattle.race.specs.Following.{AreTurns, Follows, FollowsCut, FollowsFirst, FollowsPart, Grows, IsCut, IsMade, Placed, instance_at, is_turn_of, late_for, number_at}
+use Rattle.race.specs.Following.{AreTurns, Follows, FollowsCut, FollowsFirst, FollowsPart, Grows, IsCut, IsMade, IsNoIdleTurn, Placed, TurnStands}
+use Rattle.race.specs.Following.{instance_at, is_replied, is_turn_of, late_for, number_at}
 use Rattle.race.specs.Wishes.{Wish, bytes_of_wish, wishes_of}
 
 module _ {V A : Type 0} where
@@ -50,17 +53,15 @@ module _ {V A : Type 0} where
     pub turn : is_turn_of instance one.entry.event ≡ true
     pub within : IsPrefix one.before (log_of new)
 
+  -- it made a turn of the instance, right after the log that it knew or right after an entry of another client
+  pub record TurnsNext (instance : ℕ) (old new : PassView V A) : Type 0 where
+    pub turns : TurnsOnce instance old new
+    pub stands : TurnStands old.client (log_of old) turns.one.before
+
   -- a try made a turn of the instance, or no entry
   abbrev pub MayTurn : Bool → ℕ → PassView V A → PassView V A → Type 0
-  MayTurn true instance old new = TurnsOnce instance old new
+  MayTurn true instance old new = TurnsNext instance old new
   MayTurn false instance old new = GoesBy [] old new
-
-  -- it made turns of the instance, at most one of them behind the reply to the operation
-  pub record Awaits (op instance : ℕ) (old new : PassView V A) : Type 0 where
-    pub turns : List Placed
-    pub goes : GoesBy turns old new
-    pub are_turns : AreTurns instance turns
-    pub one_late : length (late_for op turns) ≤ 1
 
 -- the cell that a pass waits for is its application's, or the storage's
 abbrev pub NamesCell : SharedAnswer → ℕ → Type 0
@@ -99,6 +100,19 @@ module _ {V A : Type 0} (K : VolumeKeeper V) (behaviour : Behaviour A) where
     pub event : one.entry.event ≡ Called old.client call
     pub op : WhereMarked K old (λ m. posted.op ≡ number_at behaviour m old.client one.before)
     pub instance : WhereMarked K old (λ m. posted.instance ≡ instance_at behaviour m old.client one.before call)
+
+  -- it made turns of the instance, at most one of them after the reply to the operation, and none idle but right after an entry of
+  -- another client
+  pub record Awaits (op instance : ℕ) (old new : PassView V A) : Type 0 where
+    pub turns : List Placed
+    pub goes : GoesBy turns old new
+    pub are_turns : AreTurns instance turns
+    pub one_late : length (late_for op turns) ≤ 1
+    pub none_idle : WhereMarked K old (λ m. AllByRecursion (IsNoIdleTurn behaviour m old.client instance) turns)
+
+  -- the reply has come, or the instance waits in the log that it knows
+  abbrev pub HasEnded : ℕ → ℕ → PassView V A → Type 0
+  HasEnded op instance p = (is_replied op (log_of p) ≡ true) ⊎ WhereMarked K p (λ m. is_waiting (machine_by behaviour m (log_of p)) instance ≡ true)
 
   -- it made the entries of a line
   pub record MakesLine (wish : Wish) (old new : PassView V A) : Type 0 where

@@ -1,12 +1,13 @@
 -- What the entries of a client in a log say of its lines.
 use Rattle.app_api.specs.Behaviours.{Behaviour}
-use Rattle.std.specs.Prelude.{ℕ, ◌≡◌, ◌≤◌, ◌==◌, ◌⊎◌, Bool, true, false, not, ◌&&◌, List, [], ◌∷◌, ◌++◌, if◌then◌else◌, filter, is_some, length}
+use Rattle.std.specs.Prelude.{ℕ, ◌≡◌, ◌≢◌, ◌≤◌, ◌==◌, ◌⊎◌, Bool, true, false, not, ◌&&◌, List, [], ◌∷◌, ◌++◌, if◌then◌else◌, filter, is_some, length}
 use Rattle.std.specs.List.{AllByRecursion}
 use mathlib.Core.List.{IsPrefix}
 use Rattle.app_api.specs.declared.call.Call.{Call}
 use Rattle.alone.specs.Machine.{Machine}
 use Rattle.alone.specs.Logs.{Logged, is_full, machine_by}
-use Rattle.alone.specs.Step.{Event, Called, Cancelled, Turned, TurnLost, Corrupted, Lost, Starved, Restarted, after_call}
+use Rattle.alone.specs.Step.{Event, Called, Cancelled, Turned, TurnLost, Corrupted, Lost, Starved, Restarted, Ticked, after_call}
+use Rattle.alone.specs.Waiting.{is_waiting}
 use Rattle.shared_parts.specs.HostedApps.{reply_in}
 use Rattle.race.specs.Wishes.{Wish, Calls, Turns, Cancels}
 
@@ -22,6 +23,7 @@ is_turn_of i (Corrupted instance) = instance == i
 is_turn_of i Lost = false
 is_turn_of i (Starved instance) = instance == i
 is_turn_of i (Restarted took) = false
+is_turn_of i (Ticked ticks) = false
 
 -- the event is a turn
 abbrev pub is_turn : Event → Bool
@@ -33,6 +35,7 @@ is_turn (Corrupted instance) = true
 is_turn Lost = false
 is_turn (Starved instance) = true
 is_turn (Restarted took) = false
+is_turn (Ticked ticks) = false
 
 -- the event is the loss of the storage that a turn finds
 abbrev pub is_found_loss : Event → Bool
@@ -44,6 +47,7 @@ is_found_loss (Corrupted instance) = false
 is_found_loss Lost = true
 is_found_loss (Starved instance) = false
 is_found_loss (Restarted took) = false
+is_found_loss (Ticked ticks) = false
 
 -- the next entry is a turn that this client made
 abbrev pub turn_comes : ℕ → List Logged → Bool
@@ -92,6 +96,27 @@ is_replied op log = is_some (reply_in op log)
 abbrev pub late_for : ℕ → List Placed → List Placed
 late_for op placed = filter (λ (p : Placed). is_replied op p.before) placed
 
+-- at most one loss, which a turn of this client found
+abbrev pub AreFound : ℕ → List Logged → Type 0
+AreFound client loss = AllByRecursion (λ e. is_loss_by client e ≡ true) loss × (length loss ≤ 1)
+
+-- the log ends with an entry of another client than this one. A loss that a turn of this one found may stand after it
+pub record EndsWithAnother (client : ℕ) (log : List Logged) : Type 0 where
+  pub before : List Logged
+  pub other : Logged
+  pub loss : List Logged
+  pub log_is : log ≡ before ++ other ∷ loss
+  pub another : other.client ≢ client
+  pub found : AreFound client loss
+
+-- a turn that was made after this log stands right after it, or right after an entry of another client
+abbrev pub TurnStands : ℕ → List Logged → List Logged → Type 0
+TurnStands client log before = ((loss : List Logged) × AreFound client loss × (before ≡ log ++ loss)) ⊎ EndsWithAnother client before
+
+-- the entry stands within this log
+abbrev pub IsWithin : List Logged → Placed → Type 0
+IsWithin log p = IsPrefix (p.before ++ p.entry ∷ []) log
+
 -- the client's entries that a log has more than one before it, of which none stands in the earlier one
 pub record Grows (client : ℕ) (old new : List Logged) (made : List Placed) : Type 0 where
   pub goes_on : IsPrefix old new
@@ -111,7 +136,12 @@ module _ {A : Type 0} (behaviour : Behaviour A) (m : Machine A) (client : ℕ) w
   abbrev pub instance_at : List Logged → Call → ℕ
   instance_at before call = (after_call (machine_by behaviour m before) client call).instance
 
-  -- the entries of a call: first the call, and then turns of its instance, of which at most one stands behind the reply
+  -- a turn that finds its instance waiting stands right after an entry of another client
+  abbrev pub IsNoIdleTurn : ℕ → Placed → Type 0
+  IsNoIdleTurn instance turn = is_waiting (machine_by behaviour m turn.before) instance ≡ true → EndsWithAnother client turn.before
+
+  -- the entries of a call: first the call, and then turns of its instance, of which at most one stands after the reply, and none is
+  -- idle but right after an entry of another client
   pub record IsCalled (call : Call) (made : List Placed) : Type 0 where
     pub first : Placed
     pub turns : List Placed
@@ -119,11 +149,20 @@ module _ {A : Type 0} (behaviour : Behaviour A) (m : Machine A) (client : ℕ) w
     pub event : first.entry.event ≡ Called client call
     pub are_turns : AreTurns (instance_at first.before call) turns
     pub one_late : length (late_for (number_at first.before) turns) ≤ 1
+    pub none_idle : AllByRecursion (IsNoIdleTurn (instance_at first.before call)) turns
 
-  -- it is answered in this log
-  pub record IsAnswered (call : Call) (made : List Placed) (log : List Logged) : Type 0 where
+  -- at a place of this log after these entries the instance waits
+  pub record WaitsIn (instance : ℕ) (made : List Placed) (log : List Logged) : Type 0 where
+    pub place : List Logged
+    pub within : IsPrefix place log
+    pub after : AllByRecursion (IsWithin place) made
+    pub waits : is_waiting (machine_by behaviour m place) instance ≡ true
+
+  -- it is answered in this log, or its instance waits there after its entries
+  pub record IsOver (call : Call) (made : List Placed) (log : List Logged) : Type 0 where
     pub called : IsCalled call made
-    pub answered : is_replied (number_at called.first.before) log ≡ true
+    pub ended : (is_replied (number_at called.first.before) log ≡ true)
+        ⊎ WaitsIn (instance_at called.first.before call) made log
 
   -- the one entry of this event
   pub record IsOne (event : Event) (made : List Placed) : Type 0 where
@@ -131,14 +170,15 @@ module _ {A : Type 0} (behaviour : Behaviour A) (m : Machine A) (client : ℕ) w
     pub made_is : made ≡ one ∷ []
     pub event_is : one.entry.event ≡ event
 
-  -- these entries are those of one line, where the log is this before the client's next line. A call without `post` is answered in it
+  -- these entries are those of one line, where the log is this before the client's next line. A call without `post` is answered in it,
+  -- or its instance waits in it
   abbrev pub IsMade : Wish → List Placed → List Logged → Type 0
   IsMade (Calls true call) made log = IsOne (Called client call) made
-  IsMade (Calls false call) made log = IsAnswered call made log
+  IsMade (Calls false call) made log = IsOver call made log
   IsMade (Turns instance count) made log = AreTurns instance made × (length made ≡ count)
   IsMade (Cancels op) made log = IsOne (Cancelled op) made
 
-  -- the same of a line that was cut short: a call may be unanswered, and there may be fewer turns
+  -- the same of a line that was cut short: a call may be unanswered while its instance doesn't wait, and there may be fewer turns
   abbrev pub IsCut : Wish → List Placed → Type 0
   IsCut (Calls true call) made = ⊥
   IsCut (Calls false call) made = IsCalled call made

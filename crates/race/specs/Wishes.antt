@@ -25,6 +25,7 @@ wish_of (lines.Turns app client instance count) = Some (Turns instance count)
 wish_of (lines.Cancel app client op) = Some (Cancels op)
 wish_of (lines.Fuse calls) = None
 wish_of (lines.Power pick) = None
+wish_of (lines.Tick ticks) = None
 
 -- the line is one of this client, for this application
 abbrev pub is_line_of : ℕ → ℕ → Line → Bool
@@ -33,6 +34,7 @@ is_line_of app client (lines.Turns a c instance count) = a == app && c == client
 is_line_of app client (lines.Cancel a c op) = a == app && c == client
 is_line_of app client (lines.Fuse calls) = false
 is_line_of app client (lines.Power pick) = false
+is_line_of app client (lines.Tick ticks) = false
 
 -- what the lines of this client ask of this application, in their order
 abbrev pub wishes_of : ℕ → ℕ → List Line → List Wish

@@ -3,7 +3,7 @@
 ghost use Rattle.std.specs.Prelude.{◌≡◌, ◌<◌, ◌^◌, [], IfErr, IfOk, OnErr, OnOk, true};
 ghost use Rattle.alone.specs.Logs.{bytes_of_call, is_full};
 ghost use Rattle.alone.specs.Step.{Cancelled};
-ghost use Rattle.shared_tee.specs.Passes.{GoesOn, IsPassOf, IsRefused, Posts, log_of};
+ghost use Rattle.shared_tee.specs.Passes.{GoesOn, IsPassOf, IsRefused, Posts, TellsWait, log_of};
 ghost use Rattle.race.specs.Following.{is_replied};
 ghost use Rattle.race.specs.Clients.{GoesBy, IsFullFor, IsStopFor, IsStopOf, MakesOnce, MayTurn, NamesCell, PostsOnce, TurnsOnce};
 ghost use Rattle.race.specs.declared.client.Stopped.TheVariants as stops;
@@ -165,6 +165,29 @@ pub(crate) fn is_answered<R: Wait, V: Volume, A: Application>(
         match shared.answer_of(pass, op) {
             Ok(found) => return Ok(found.is_some()),
             Err(why) => pause(rt, shared, pass, why)?,
+        }
+    }
+    unreachable!()
+}
+
+/// Whether the instance waits by now.
+pub(crate) fn is_waiting<R: Wait, V: Volume, A: Application>(
+    rt: &R,
+    shared: &SharedTeeOver<V, A>,
+    pass: &mut Pass<V, A>,
+    instance: u8,
+) -> bool
+    requires of { IsPassOf shared.now pass.old }
+    ensures of { IsPassOf shared.now pass.new }
+    ensures goes { GoesBy [] pass.old pass.new }
+    ensures told { TellsWait V.keeper A.behaviour result instance pass.new }
+{
+    for _ in rt.forever() {
+        expect_call(rt, pass);
+        match shared.waits(pass, instance) {
+            Ok(waits) => return waits,
+            Err(SharedAnswer::Busy(busy)) => shared.pause(rt, pass, busy.cell),
+            Err(_) => unreachable!(),
         }
     }
     unreachable!()

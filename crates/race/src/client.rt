@@ -45,7 +45,7 @@ fn app_of(line: &Line, client: u8) -> Option<u8>
             client: own,
             ..
         } => (*own == client).then_some(*app),
-        Line::Fuse(_) | Line::Power(_) => None,
+        Line::Fuse(_) | Line::Power(_) | Line::Tick(_) => None,
     }
 }
 

@@ -2,11 +2,10 @@
 
 ghost use Rattle.std.specs.Prelude.{◌≡◌, IfErr, IfSome, OnErr, OnOk, true};
 ghost use Rattle.shared_tee.specs.Passes.{IsPassOf, log_of};
-ghost use Rattle.race.specs.Following.{is_replied};
 ghost use Rattle.race.specs.Wishes.{Calls, Cancels, Turns, wish_of};
-ghost use Rattle.race.specs.Clients.{Awaits, IsFullFor, IsStopFor, MakesLine, StopsAt};
+ghost use Rattle.race.specs.Clients.{Awaits, HasEnded, IsFullFor, IsStopFor, MakesLine, StopsAt};
 
-use crate::calls::{cancel, is_answered, post, try_turn, turn};
+use crate::calls::{cancel, is_answered, is_waiting, post, try_turn, turn};
 use crate::client::Stopped;
 use alone::Call;
 use app_api::Application;
@@ -15,12 +14,12 @@ use shared_tee::{Pass, SharedTeeOver};
 use std::sync::Wait;
 use store_api::Volume;
 
-/// Gives an instance turns until the log has the reply to an operation. Before each turn it looks for the reply.
+/// Gives an instance turns until the log has the reply to an operation, or the instance waits. Before each turn it looks for both.
 ///
 /// # Errors
 ///
 /// `LogFull` where the log has no place for a turn; `NoMemory`. The operation may be unanswered then.
-fn turn_until_answered<R: Wait, V: Volume, A: Application>(
+fn turn_until_over<R: Wait, V: Volume, A: Application>(
     rt: &R,
     shared: &SharedTeeOver<V, A>,
     pass: &mut Pass<V, A>,
@@ -29,8 +28,8 @@ fn turn_until_answered<R: Wait, V: Volume, A: Application>(
 ) -> Result<(), Stopped>
     requires of { IsPassOf shared.now pass.old }
     ensures of { IsPassOf shared.now pass.new }
-    ensures turns { Awaits op instance pass.old pass.new }
-    ensures ok { OnOk result (is_replied op (log_of pass.new) ≡ true) }
+    ensures turns { Awaits V.keeper A.behaviour op instance pass.old pass.new }
+    ensures ok { OnOk result (HasEnded V.keeper A.behaviour op instance pass.new) }
     ensures err { IfErr result (λ why.
         IsStopFor why pass.old.app × IsFullFor why 0 (log_of pass.new)) }
 {
@@ -38,12 +37,15 @@ fn turn_until_answered<R: Wait, V: Volume, A: Application>(
         if is_answered(rt, shared, pass, op)? {
             return Ok(());
         }
+        if is_waiting(rt, shared, pass, instance) {
+            return Ok(());
+        }
         try_turn(rt, shared, pass, instance)?;
     }
     unreachable!()
 }
 
-/// Makes a call, and without `post` gives its instance turns until it is answered.
+/// Makes a call, and without `post` gives its instance turns until it is answered or the instance waits.
 ///
 /// # Errors
 ///
@@ -66,7 +68,7 @@ fn make_call<R: Wait, V: Volume, A: Application>(
     if is_post {
         return Ok(());
     }
-    turn_until_answered(rt, shared, pass, posted.op, posted.instance)
+    turn_until_over(rt, shared, pass, posted.op, posted.instance)
 }
 
 /// Makes so many turns of an instance.
@@ -121,6 +123,6 @@ pub(crate) fn make_line<R: Wait, V: Volume, A: Application>(
             ..
         } => make_turns(rt, shared, pass, *instance, *count),
         Line::Cancel { op, .. } => cancel(rt, shared, pass, *op),
-        Line::Fuse(_) | Line::Power(_) => Ok(()),
+        Line::Fuse(_) | Line::Power(_) | Line::Tick(_) => Ok(()),
     }
 }

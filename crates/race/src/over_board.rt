@@ -68,6 +68,7 @@ where
     G: Gate,
     requires fit { HostsFit hosts.items }
     requires named { NameApps (length hosts.items) lines.now }
+    // the lines can be numbered
     requires few { length lines.now < 2 ^ 32 }
     // a sound image of an honest board at rest: which logs came of it, and what a crash may leave
     ensures came { B.honest board → (n : ℕ) (h : Held) (stores : ℕ → Store)

@@ -72,6 +72,12 @@ const PLACE: Number = Number {
     high: MAX_32,
 };
 
+const TICKS: Number = Number {
+    name: "a number of ticks",
+    low: 1,
+    high: limits::MAX_LINE_TICKS as u64,
+};
+
 const PICK: Number = Number {
     name: "a number",
     low: 0,
@@ -176,6 +182,12 @@ const POWER: Form = Form {
     rest: Rest::Nothing,
 };
 
+const TICK: Form = Form {
+    verb: b"tick",
+    numbers: &[TICKS],
+    rest: Rest::Nothing,
+};
+
 /// The verbs that may stand at a place, each with its form.
 pub struct Verbs {
     pub names: &'static str,
@@ -205,8 +217,8 @@ pub const POSTED_VERBS: &Verbs = &Verbs {
 
 /// What befalls the board.
 pub const BOARD_VERBS: &Verbs = &Verbs {
-    names: "fuse or power",
-    forms: &[FUSE, POWER],
+    names: "fuse, power or tick",
+    forms: &[FUSE, POWER, TICK],
 };
 
 /// What stands after the kind of a parameter.

@@ -1,5 +1,5 @@
 -- What comes of an ask leaves sessions and instances as they were, and of the operations all but their masks.
-use Rattle.std.proofs.Common.{ℕ, ◌≡◌, Bool, true, false, nat_le, refl}
+use Rattle.std.proofs.Common.{ℕ, ◌≡◌, Bool, true, false, nat_le, nat_lt, refl}
 use Rattle.std.proofs.lemmas.Bool.{cond_both}
 use Rattle.tee_base.specs.declared.codes.Code.{Code}
 use Rattle.tee_base.specs.declared.codes.TheConstants.Code.{STORAGE_NOT_AVAILABLE}
@@ -17,6 +17,8 @@ use Rattle.operation_asks.specs.Asks as operations
 use Rattle.operation_asks.specs.Past.{key_effect}
 use Rattle.operation_asks.specs.declared.outcome.Outcome.{Outcome as Told}
 use Rattle.operation_asks.specs.declared.outcome.Outcome.TheVariants as told
+use Rattle.ticks_time.specs.Clock.{Ticking, with_own}
+use Rattle.ticks_time.specs.declared.time.TheConstants.{MILLIS}
 use Rattle.alone.specs.declared.family.Family.{Family}
 use Rattle.alone.specs.declared.family.Family.TheVariants as families
 use Rattle.alone.specs.declared.active_entry.ActiveEntry.{ActiveEntry}
@@ -27,6 +29,7 @@ use Rattle.alone.specs.Families.{family_of}
 use Rattle.alone.specs.Machine.{Machine}
 use Rattle.alone.specs.Places.{is_misuse, places_at}
 use Rattle.alone.specs.Step.{serve_outcome}
+use Rattle.alone.specs.Times.{time_resolution}
 use Rattle.reply_laws.proofs.Alike.{AreAlike, alike_mask_for, alike_same}
 
 -- a machine that an answer leaves
@@ -91,11 +94,22 @@ module _ {A : Type 0} (m : Machine A) where
   entry_like r asked.ClientIdentity = record { queue = alike_same m.queue; table = refl; instances = refl }
   entry_like r ask = tt
 
+  clock_like : (clock : Ticking) → IsLike m (record m { clock = clock })
+  clock_like clock = record { queue = alike_same m.queue; table = refl; instances = refl }
+
+  time_like : (ask : Ask) → ResolutionLike m (time_resolution m ask)
+  time_like asked.SystemTime = clock_like m.clock
+  time_like (asked.SetAppTime seconds millis) =
+      cond_both (nat_lt millis MILLIS) _ _ (ResolutionLike m) (λ _. clock_like (with_own m.clock (record { seconds = seconds; millis = millis }))) (λ _. tt)
+  time_like asked.AppTime = clock_like m.clock
+  time_like ask = tt
+
   family_like : (i : ℕ) (r : ActiveEntry) (ask : Ask) (family : Family) → ResolutionLike m (resolution_in_family family m i r ask)
   family_like i r ask families.Entry = entry_like r ask
   family_like i r ask families.Objects = resolution_in_like m.crypto (object_resolution (objects_of m) i ask)
   family_like i r ask families.Operations = operated_like i (operation_resolution m.crypto i ask)
   family_like i r ask families.Generation = generation_like i ask
+  family_like i r ask families.Times = time_like ask
 
   served_like : (serving : Serving) (ask : Ask) (c : Resolution (Machine A)) → ResolutionLike m c → OutcomeLike m (serve_outcome serving m ask c)
   served_like serving ask (Settled outcome) h = h

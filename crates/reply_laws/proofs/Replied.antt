@@ -14,7 +14,7 @@ use Rattle.store_api.specs.Stores.{Store}
 use Rattle.alone.specs.declared.reply.Reply.{Reply}
 use Rattle.alone.specs.Machine.{Machine, start}
 use Rattle.alone.specs.Runs.{machine_after}
-use Rattle.alone.specs.Step.{Event, Called, Cancelled, Turned, TurnLost, Corrupted, Lost, Starved, Restarted, step, turn_counted}
+use Rattle.alone.specs.Step.{Event, Called, Cancelled, Turned, TurnLost, Corrupted, Lost, Starved, Restarted, Ticked, step, turn_counted}
 use Rattle.alone.proofs.Totals.{bit}
 use Rattle.alone.proofs.Called.{takes}
 use Rattle.alone.proofs.Dropped.{cancels}
@@ -67,6 +67,7 @@ module _ {A : Type 0} (behaviour : Behaviour A) where
   step_sound m (Cancelled op) h = cancels m op h
   step_sound m (Starved i) h = (fails (turn_counted m) i h).sound
   step_sound m (Restarted took) h = nothing_sound (without_operations m.queue) m.table.properties (forgotten_IsQueue m.queue h.queue) refl
+  step_sound m (Ticked ticks) h = h
 
   step_replied : (m : Machine A) (event : Event) → IsSoundMachine m → IsKeepingMachine m → IsNoRestart event → IsRepliedBy m (step behaviour m event)
   step_replied m (Called client call) h k running = call_replied m client call h k
@@ -77,6 +78,7 @@ module _ {A : Type 0} (behaviour : Behaviour A) where
   step_replied m Lost h k running = replied_same m.queue m.table m.instances k
   step_replied m (Starved i) h k running = torn_replied (turn_counted m) i OUT_OF_MEMORY Tee k
   step_replied m (Restarted took) h k running = absurd running
+  step_replied m (Ticked ticks) h k running = replied_same m.queue m.table m.instances k
 
   step_keeps : (m : Machine A) (event : Event) → IsSoundMachine m → IsKeepingMachine m → IsKeepingMachine (step behaviour m event).machine
   step_keeps m (Called client call) h k = (step_replied m (Called client call) h k tt).keeps
@@ -87,6 +89,7 @@ module _ {A : Type 0} (behaviour : Behaviour A) where
   step_keeps m Lost h k = k
   step_keeps m (Starved i) h k = (step_replied m (Starved i) h k tt).keeps
   step_keeps m (Restarted took) h k = nothing_keeps (without_operations m.queue) m.table.properties refl
+  step_keeps m (Ticked ticks) h k = k
 
   -- the step tells of each
   told : (m : Machine A) (event : Event) → IsRepliedBy m (step behaviour m event) → RepliesToEach behaviour m event

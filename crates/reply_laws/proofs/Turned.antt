@@ -1,6 +1,6 @@
 -- A turn loses no operation.
 use Rattle.app_api.specs.Behaviours.{Behaviour}
-use Rattle.std.proofs.Common.{ℕ, ◌≡◌, ◌+◌, ◌≤◌, ◌<◌, ◌==◌, ◌&&◌, nat_lt, Bool, true, false, not, List, [], ◌∷◌, find, map, length, get_or}
+use Rattle.std.proofs.Common.{ℕ, ◌≡◌, ◌+◌, ◌≤◌, ◌<◌, ◌==◌, ◌&&◌, nat_le, nat_lt, Bool, true, false, not, List, [], ◌∷◌, find, map, length, get_or}
 use Rattle.std.proofs.Common.{suc, AllPairs, Option, None, Some, option_map, refl, sym, ap, subst, ◌∙◌, ⊎_elim, eq-eqb, arith}
 use Rattle.std.specs.Prelude.{option_to_list}
 use Rattle.std.specs.List.{AllByRecursion}
@@ -9,6 +9,7 @@ use Rattle.std.proofs.lemmas.List.{length-map}
 use Rattle.tee_base.specs.declared.codes.Code.{Code}
 use Rattle.tee_base.specs.declared.codes.Origin.TheVariants.{App, Tee}
 use Rattle.tee_base.specs.declared.codes.TheConstants.Code.{SUCCESS, TARGET_DEAD}
+use Rattle.tee_base.specs.declared.limits.TheConstants.{MAX_ASKS}
 use Rattle.app_api.specs.declared.ask.Ask.{Ask}
 use Rattle.app_api.specs.declared.ask.Given.TheVariants as givens
 use Rattle.app_api.specs.declared.call.Call.{Call}
@@ -26,6 +27,7 @@ use Rattle.op_queue.specs.declared.operation.Progress.TheVariants.{Waiting, Runn
 use Rattle.op_queue.specs.Queue.{ComesBefore, after_begin, begun_at, begun_of, first_waiting, is_close, is_close_call, is_running, as_running, waits_for}
 use Rattle.object_asks.specs.Asks.{Outcome, Answered, Returned, Panicked, Serving}
 use Rattle.shared_mem.specs.declared.block.Block.{Block}
+use Rattle.ticks_time.specs.Clock.{deadline_of}
 use Rattle.alone.specs.declared.active_entry.Instance.{Instance}
 use Rattle.alone.specs.declared.active_entry.ActiveEntry.{ActiveEntry}
 use Rattle.alone.specs.declared.active_entry.EntryPoint.{EntryPoint}
@@ -39,7 +41,8 @@ use Rattle.alone.specs.Blocks.{given_params}
 use Rattle.alone.specs.Machine.{Machine, instance_at, is_number, put_instance, with_instance}
 use Rattle.alone.specs.Step.{after_ask, after_session, after_answer, begun_with, destroy_begins, after_destroy_begins, first_entry, instance_gone, is_success}
 use Rattle.alone.specs.Step.{masked_again, no_replies, reply_of, after_return, serve_outcome, start_begun}
-use Rattle.alone.specs.Step.{turn_counted, turned_as, turned_at, turned_by, went_on}
+use Rattle.alone.specs.Step.{ask_counted, carried_out, turn_counted, turned_as, turned_at, turned_by, waited, went_on}
+use Rattle.alone.specs.Waiting.{wait_goes, wait_of}
 use Rattle.alone.proofs.Totals.{bit, alike, each_from_index, found_counts, found_has, found_here, found_later, found_passes, total, total_le}
 use Rattle.alone.proofs.Totals.{total_le_each, total_map, total_ones}
 use Rattle.alone.proofs.Each.{each_weaker, none_passes}
@@ -583,14 +586,30 @@ module _ {A : Type 0} (m : Machine A) (inst : Instance A) (h : IsSoundMachine m)
   begins (Some o) e = begins_at o e o.progress refl
 
 module _ {A : Type 0} (behaviour : Behaviour A) (serving : Serving) where
+  -- an entry that waits stays the same but for what it waits for
+  waits_replied : (m : Machine A) (inst : Instance A) (r s : ActiveEntry) (deadline : Option ℕ) → IsSoundMachine m → IsKeepingMachine m → find (is_number inst.number) m.instances ≡ Some inst
+      → inst.running ≡ Some r → s.op ≡ r.op → s.stage ≡ r.stage → IsRepliedBy m (waited m inst s deadline)
+  waits_replied m inst r s deadline h k found running op stage =
+      let t : ActiveEntry = record { op = s.op; stage = s.stage; waits = wait_goes m s.op deadline; asks = s.asks; masked = s.masked } in
+      let new : Instance A = record inst { running = Some t } in
+      replied_same m.queue m.table (put_instance new m.instances) (goes_on m inst r h k found running new t refl refl refl op stage found)
+
+  carries_out : (m : Machine A) (inst : Instance A) (r : ActiveEntry) (ask : Ask) → IsSoundMachine m → IsKeepingMachine m → find (is_number inst.number) m.instances ≡ Some inst
+      → inst.running ≡ Some r → (o : Option ℕ) → IsRepliedBy m (carried_out serving m inst r ask o)
+  carries_out m inst r ask h k found running None =
+      acts m inst r h k found running ask (serve_outcome serving m ask (resolution_after m inst.number r ask)) (ask_like m serving inst.number r ask)
+  carries_out m inst r ask h k found running (Some ticks) =
+      cond_both (nat_le MAX_ASKS r.asks) _ _ (IsRepliedBy m) (λ _. torn_replied m inst.number TARGET_DEAD Tee k)
+      (λ _. waits_replied m inst r (ask_counted r) (deadline_of m.clock ticks) h k found running refl refl)
+
   runs_on : (m : Machine A) (inst : Instance A) (r : ActiveEntry) → IsSoundMachine m → IsKeepingMachine m → find (is_number inst.number) m.instances ≡ Some inst → inst.running ≡ Some r
       → (w : Waits) → IsRepliedBy m (went_on behaviour serving m inst r w)
   runs_on m inst r h k found running (waits.Given given) =
       let s : ActiveEntry = record { op = r.op; stage = r.stage; waits = waits.Ask (behaviour.asks inst.state given); asks = r.asks; masked = r.masked } in
       let new : Instance A = record inst { state = behaviour.next inst.state given; running = Some s } in
       replied_same m.queue m.table (put_instance new m.instances) (goes_on m inst r h k found running new s refl refl refl refl refl found)
-  runs_on m inst r h k found running (waits.Ask ask) =
-      acts m inst r h k found running ask (serve_outcome serving m ask (resolution_after m inst.number r ask)) (ask_like m serving inst.number r ask)
+  runs_on m inst r h k found running (waits.Ask ask) = carries_out m inst r ask h k found running (wait_of ask)
+  runs_on m inst r h k found running (waits.Until deadline) = waits_replied m inst r r deadline h k found running refl refl
 
   turns_by : (m : Machine A) (inst : Instance A) → IsSoundMachine m → IsKeepingMachine m → find (is_number inst.number) m.instances ≡ Some inst → (running : Option ActiveEntry)
       → inst.running ≡ running → IsRepliedBy m (turned_by behaviour serving m inst running)

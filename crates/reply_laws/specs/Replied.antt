@@ -6,7 +6,7 @@ use Rattle.std.specs.List.{list_any}
 use Rattle.op_queue.specs.Queue.{operation_of}
 use Rattle.alone.specs.declared.reply.Reply.{Reply}
 use Rattle.alone.specs.Machine.{Machine}
-use Rattle.alone.specs.Step.{Event, Called, Cancelled, Turned, TurnLost, Corrupted, Lost, Starved, Restarted, step}
+use Rattle.alone.specs.Step.{Event, Called, Cancelled, Turned, TurnLost, Corrupted, Lost, Starved, Restarted, Ticked, step}
 
 -- the operation of this number is unanswered
 abbrev pub is_unanswered : {A : Type 0} → Machine A → ℕ → Bool
@@ -26,6 +26,7 @@ IsNoRestart (Corrupted instance) = Unit {0}
 IsNoRestart Lost = Unit {0}
 IsNoRestart (Starved instance) = Unit {0}
 IsNoRestart (Restarted took) = ⊥
+IsNoRestart (Ticked ticks) = Unit {0}
 
 -- each operation that is unanswered before an event is so after it, or the event replies to it
 abbrev pub RepliesToEach : {A : Type 0} → Behaviour A → Machine A → Event → Type 0

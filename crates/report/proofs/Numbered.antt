@@ -14,7 +14,7 @@ use Rattle.store_api.specs.Stores.{Store}
 use Rattle.alone.specs.Asks.{objects_of}
 use Rattle.alone.specs.Logs.{Logged, machine_by}
 use Rattle.alone.specs.Machine.{Machine, start}
-use Rattle.alone.specs.Step.{Event, Called, Cancelled, Turned, TurnLost, Corrupted, Lost, Starved, Restarted, step, turned_as}
+use Rattle.alone.specs.Step.{Event, Called, Cancelled, Turned, TurnLost, Corrupted, Lost, Starved, Restarted, Ticked, step, turned_as}
 use Rattle.alone.proofs.Born.{goes_all}
 use Rattle.alone.proofs.Kept.{IsKept, IsKeptAs, cancelled_kept, turned_kept}
 use Rattle.alone.proofs.KeptByCalls.{IsKeptByCalls, called_kept}
@@ -57,6 +57,7 @@ module _ {A : Type 0} where
     delivered = λ m op os same. same;
     objects = λ m i ask same. goes_all (λ _. HasNext n m) (object_resolution (objects_of m) i ask) (λ _. same);
     crypto = λ m s stream same. same;
+    timed = λ m time same. same;
     made = λ m i object bits random same. goes_all (λ _. HasNext n m) (generate_resolution (objects_of m) i object bits random) (λ _. same);
   }
 
@@ -82,6 +83,7 @@ module _ {A : Type 0} where
   step_next behaviour m Lost = none_more m.queue.next
   step_next behaviour m (Starved i) = none_more m.queue.next
   step_next behaviour m (Restarted took) = none_more m.queue.next
+  step_next behaviour m (Ticked ticks) = none_more m.queue.next
 
   log_next : (behaviour : Behaviour A) (m : Machine A) (log : List Logged) → (machine_by behaviour m log).queue.next ≡ m.queue.next + count_by (λ (e : Logged). is_call e.event) log
   log_next behaviour m [] = none_more m.queue.next

@@ -3,7 +3,7 @@ use Rattle.std.specs.Prelude.{ℕ, ◌+◌, Bool, true, false, List, [], ◌++�
 use Rattle.std.specs.Fmt.{decimal}
 use Rattle.std.specs.List.{count_by, enumerate_from, flat_map}
 use Rattle.alone.specs.Logs.{Logged}
-use Rattle.alone.specs.Step.{Event, Called, Cancelled, Turned, TurnLost, Corrupted, Lost, Starved, Restarted}
+use Rattle.alone.specs.Step.{Event, Called, Cancelled, Turned, TurnLost, Corrupted, Lost, Starved, Restarted, Ticked}
 use Rattle.script.specs.Canonical.{behind_spaces, call_words}
 use Rattle.report.specs.Texts.{reply_text}
 
@@ -17,12 +17,13 @@ is_call (Corrupted instance) = false
 is_call Lost = false
 is_call (Starved instance) = false
 is_call (Restarted took) = false
+is_call (Ticked ticks) = false
 
 -- the number of the operation of a call that comes behind these entries: each call has one, a refused one too, from 1
 abbrev pub op_behind : List Logged → ℕ
 op_behind before = 1 + count_by (λ e. is_call e.event) before
 
--- an event in words; the operation of a call has the number op. No log has the power's return
+-- an event in words; the operation of a call has the number op. No log has the power's return, or ticks
 abbrev pub event_text : ℕ → Event → List ℕ
 event_text op (Called client call) = codes "call " ++ decimal op ++ behind_spaces (call_words call)
 event_text op (Cancelled wanted) = codes "cancel " ++ decimal wanted
@@ -32,6 +33,7 @@ event_text op (Corrupted instance) = codes "corrupt " ++ decimal instance
 event_text op Lost = codes "lost"
 event_text op (Starved instance) = codes "starve " ++ decimal instance
 event_text op (Restarted took) = []
+event_text op (Ticked ticks) = []
 
 -- the line of an entry: its place, counted from 1, the client that made it, and the event
 abbrev pub entry_line : List ℕ → ℕ → ℕ → ℕ → Event → List ℕ

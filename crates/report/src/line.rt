@@ -38,7 +38,9 @@ impl LineBuffer {
 
     /// Appends these bytes. Want of memory changes nothing.
     pub fn text(&mut self, piece: &[u8]) -> Result<(), NoMemory>
+        // the bytes stand at the end
         ensures appended { OnOk result (self.new ≡ self.old ++ piece.now) }
+        // without memory the text stays
         ensures unchanged { OnErr result (self.new ≡ self.old) }
     {
         self.bytes.extend_from_slice(piece)?;
@@ -47,7 +49,9 @@ impl LineBuffer {
 
     /// Appends a number in decimal digits. Want of memory changes nothing.
     pub fn number(&mut self, number: u64) -> Result<(), NoMemory>
+        // its digits stand at the end
         ensures appended { OnOk result (self.new ≡ self.old ++ decimal number) }
+        // without memory the text stays
         ensures unchanged { OnErr result (self.new ≡ self.old) }
     {
         let mut digits = Buffer::new();
@@ -64,7 +68,9 @@ impl LineBuffer {
 
     /// Appends bytes in lower-case hexadecimal digits, two for each. Want of memory changes nothing.
     pub fn hex(&mut self, bytes: &[u8]) -> Result<(), NoMemory>
+        // their digits stand at the end
         ensures appended { OnOk result (self.new ≡ self.old ++ encode_lower bytes.now) }
+        // without memory the text stays
         ensures unchanged { OnErr result (self.new ≡ self.old) }
     {
         let digits = hex::encode(self.alloc, bytes)?;
@@ -74,7 +80,9 @@ impl LineBuffer {
 
     /// Appends a code in eight hexadecimal digits. Want of memory changes nothing.
     pub fn code(&mut self, code: Code) -> Result<(), NoMemory>
+        // its digits stand at the end
         ensures appended { OnOk result (self.new ≡ self.old ++ code_text code) }
+        // without memory the text stays
         ensures unchanged { OnErr result (self.new ≡ self.old) }
     {
         self.hex(code.0.to_be_bytes().as_slice())

@@ -2,7 +2,7 @@
 -- and each number of a loss of power for one loss.
 use Rattle.app_api.specs.Behaviours.{Behaviour}
 use Rattle.std.proofs.Common.{ℕ, zero, suc, ◌≡◌, ◌≢◌, ◌<◌, ◌≤◌, ◌+◌, ◌==◌, ◌&&◌, ◌⊎◌, inl, inr, Bool, true, false, cond, filter, List, [], ◌∷◌}
-use Rattle.std.proofs.Common.{◌++◌, Option, None, Some, length, map, refl, sym, subst, ◌∙◌, ap, append_assoc, arith}
+use Rattle.std.proofs.Common.{◌++◌, Option, None, Some, length, map, refl, sym, subst, ◌∙◌, ap, append-nil, append_assoc, arith}
 use Rattle.std.specs.Prelude.{◌||◌, slice_get}
 use Rattle.std.proofs.Math.Bool.{or-false}
 use Rattle.std.proofs.lemmas.Bool.{cond_both, eq-eqb, eqb-true, eqb-false, ne_eqb}
@@ -15,7 +15,7 @@ use Rattle.alone.specs.declared.turn.TurnKind.{TurnKind}
 use Rattle.alone.specs.declared.turn.TurnKind.TheVariants as kinds
 use Rattle.alone.specs.Machine.{Machine}
 use Rattle.alone.specs.Marks.{Marks}
-use Rattle.alone.specs.Step.{Event, Called, Cancelled, Turned, TurnLost, Corrupted, Lost, Starved, Restarted, step}
+use Rattle.alone.specs.Step.{Event, Called, Cancelled, Turned, TurnLost, Corrupted, Lost, Starved, Restarted, Ticked, step}
 use Rattle.alone.proofs.Counted.{call_counts_none, cancellation_counts_none}
 use Rattle.tee_core.specs.declared.happened.Happened.{Happened}
 use Rattle.tee_core.specs.Happenings.{happened_in, is_corrupt_turn, is_lost_turn, is_starved_turn, kind_met, has_told}
@@ -27,7 +27,7 @@ use Rattle.tee_core.proofs.TurnsMade.{at_step}
 use Rattle.run_board.specs.BoardLines.{IsOwnerKnown}
 use Rattle.run_board.specs.Logs.{AreKnown, Entry, Item, OfApp, OfBoard, SameWeather, entries_in, kept_at, log_weather, powers_told, told_of_app}
 use Rattle.run_board.specs.Parts.{AgreesAt, AgreesIn, AgreeWith, AreTold, IsMarkedAs, entry_of, items_of, log_of, owner_told}
-use Rattle.run_board.specs.Transcript.{Weather, WorldEvent, Fused, Happens, Powered, after_event, owner_in_doubt, powers_in, told_by}
+use Rattle.run_board.specs.Transcript.{Weather, WorldEvent, Fused, Happens, Powered, Ticks, after_event, owner_in_doubt, powers_in, told_by}
 use Rattle.run_board.proofs.Parts.{entries_both, powers_both}
 
 -- ---- how many turns a machine of a world has made
@@ -81,6 +81,7 @@ module _ {A : Type 0} (behaviour : Behaviour A) where
   counts m Lost = inr (refl, refl)
   counts m (Starved i) = inl (kind_counts behaviour m kinds.Starved i)
   counts m (Restarted took) = inr (refl, refl)
+  counts m (Ticked ticks) = inr (refl, refl)
 
   later_by : (m : Machine A) (event : Event) → Counts m event → m.turns ≤ (step behaviour m event).machine.turns
   later_by m event (inl is) = omega (arith, is)
@@ -98,6 +99,7 @@ module _ {A : Type 0} (behaviour : Behaviour A) where
   met_turns Lost w app = refl
   met_turns (Starved i) w app = refl
   met_turns (Restarted took) w app = refl
+  met_turns (Ticked ticks) w app = refl
 
   other_turns_by : (w : World A) (app other : ℕ) (event : Event) (o : Option (Machine A)) → other ≢ app → turns_at (moved_at behaviour w app event o) other ≡ turns_at w other
   other_turns_by w app other event None apart = refl
@@ -136,6 +138,7 @@ module _ {A : Type 0} (behaviour : Behaviour A) where
   kept w (Happens e) app = step_kept w e app
   kept w (Fused calls) app = omega arith
   kept w (Powered pick told) app = let same = restart_turns (kept_by told) 0 w app in omega (arith, same)
+  kept w (Ticks ticks) app = let same = turns_map (λ m. (step behaviour m (Ticked ticks)).machine) w app (λ m. refl) in omega (arith, same)
 
   -- ---- what a log tells of a turn
 
@@ -178,6 +181,7 @@ module _ {A : Type 0} (behaviour : Behaviour A) where
         says_before m e.event turn (omega (arith, made, count)) (counts m e.event))
     items_later w (Fused calls) app turn made = refl
     items_later w (Powered pick told) app turn made = refl
+    items_later w (Ticks ticks) app turn made = refl
 
     -- and nothing of those behind it
     items_behind : (w : World A) (e : WorldEvent) (app turn : ℕ) → turns_at (after_event behaviour w e) app < turn → says app (items_of behaviour w e) turn ≡ false
@@ -188,6 +192,7 @@ module _ {A : Type 0} (behaviour : Behaviour A) where
         says_other m e.event turn (λ equal. absurd (omega (arith, above, equal, count))))
     items_behind w (Fused calls) app turn above = refl
     items_behind w (Powered pick told) app turn above = refl
+    items_behind w (Ticks ticks) app turn above = refl
 
     -- events from a world on tell nothing of the turns that were made before
     says_later : (w : World A) (es : List WorldEvent) (app turn : ℕ) → turn ≤ turns_at w app → says app (log_of behaviour w es) turn ≡ false
@@ -275,6 +280,7 @@ module _ {A : Type 0} (behaviour : Behaviour A) where
     agrees_by m turns Lost h = tt
     agrees_by m turns (Starved i) h = h (kind_counts behaviour m kinds.Starved i)
     agrees_by m turns (Restarted took) h = tt
+    agrees_by m turns (Ticked ticks) h = tt
 
     agrees_in : (turns : Marks) (event : Event) (o here : Option (Machine A)) → here ≡ o
         → ((m : Machine A) → here ≡ Some m → (step behaviour m event).machine.turns ≡ m.turns + 1 → IsMarkedAs (kind_met m event) turns (m.turns + 1)) → AgreesIn turns o event
@@ -310,6 +316,11 @@ module _ {A : Type 0} (behaviour : Behaviour A) where
               (behind_step power power w (Happens e) front count behind),
         )
     goes_from power w (Fused calls ∷ es) front whole known told behind = (tt, goes_from power w es front whole known told behind)
+    goes_from power w (Ticks ticks ∷ es) front whole known told behind =
+        let then : World A = after_event behaviour w (Ticks ticks) in
+        let count : length (powers_told front) + 0 ≡ power = omega (arith, behind.powers) in
+        let still : AreBehind power then front = subst (λ (fs : List Item). AreBehind power then fs) (append-nil front) (behind_step power power w (Ticks ticks) front count behind) in
+        (tt, goes_from power then es front whole known told still)
     goes_from power w (Powered pick heard ∷ es) front whole known told behind =
         let here : List Item = OfBoard heard ∷ [] in
         let then : World A = after_power behaviour w heard in

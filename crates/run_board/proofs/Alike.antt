@@ -9,7 +9,7 @@ use Rattle.app_api.specs.declared.call.Call.{Call}
 use Rattle.alone.specs.Machine.{Machine}
 use Rattle.alone.specs.Marks.{Marks, SameAt, event_at}
 use Rattle.alone.specs.Runs.{events_of_call, machine_after, most_turns, turns_of, turns_until}
-use Rattle.alone.specs.Step.{Event, Called, Cancelled, Turned, TurnLost, Corrupted, Lost, Starved, Restarted, after_call, is_answered, is_enabled, step}
+use Rattle.alone.specs.Step.{Event, Called, Cancelled, Turned, TurnLost, Corrupted, Lost, Starved, Restarted, Ticked, after_call, is_enabled, is_over, step}
 use Rattle.alone.proofs.Booted.{call_boots_none, cancellation_boots_none, turn_boots_none}
 use Rattle.alone.proofs.Storage.{call_leaves_storage, cancellation_leaves_storage, damage_leaves_doubt, turn_leaves_doubt}
 use Rattle.object_asks.specs.Asks.{Serves, Fails, Damaged}
@@ -31,6 +31,7 @@ BootsNone (Corrupted i) = Unit {0}
 BootsNone Lost = Unit {0}
 BootsNone (Starved i) = Unit {0}
 BootsNone (Restarted took) = ⊥
+BootsNone (Ticked ticks) = Unit {0}
 
 -- the event of a turn, where it is so marked
 abbrev pub chosen : {A : Type 0} → Bool → Bool → Bool → Machine A → ℕ → Event
@@ -52,7 +53,7 @@ module _ {A : Type 0} (behaviour : Behaviour A) (marks : Marks) (P : Event → T
   until_all zero m i op = tt
   until_all (suc more) m i op =
       let event : Event = event_at marks m i in
-      cond_both (is_answered m op) [] (event ∷ turns_until behaviour marks more (step behaviour m event).machine i op) (AllByRecursion P)
+      cond_both (is_over m i op) [] (event ∷ turns_until behaviour marks more (step behaviour m event).machine i op) (AllByRecursion P)
       (λ _. tt)
       (λ _. (each m i, until_all more (step behaviour m event).machine i op))
 
@@ -96,6 +97,7 @@ module _ {A : Type 0} (behaviour : Behaviour A) where
   step_boots m Lost none = refl
   step_boots m (Starved i) none = refl
   step_boots m (Restarted took) none = absurd none
+  step_boots m (Ticked ticks) none = refl
 
   -- without a restart among them, the count of losses of power stays
   pub boots_stay : (m : Machine A) (events : List Event) → AllByRecursion BootsNone events → (machine_after behaviour m events).boot ≡ m.boot
@@ -111,6 +113,7 @@ module _ {A : Type 0} (behaviour : Behaviour A) where
   step_calm m Lost leaves calm = calm
   step_calm m (Starved i) leaves calm = calm
   step_calm m (Restarted took) leaves calm = refl
+  step_calm m (Ticked ticks) leaves calm = calm
 
   -- without a lost turn among them, no change comes into doubt
   pub calm_stays : (m : Machine A) (events : List Event) → AllByRecursion LeavesAnother events → m.in_doubt ≡ None → (machine_after behaviour m events).in_doubt ≡ None
@@ -141,8 +144,8 @@ module _ {A : Type 0} (behaviour : Behaviour A) (these those : Marks) (same : (t
   until_alike zero m i op = refl
   until_alike (suc more) m i op =
       let event : Event = event_at those m i in
-      ap (λ (e : Event). cond (is_answered m op) [] (e ∷ turns_until behaviour these more (step behaviour m e).machine i op)) (event_alike m i)
-      ∙ ap (λ (es : List Event). cond (is_answered m op) [] (event ∷ es)) (until_alike more (step behaviour m event).machine i op)
+      ap (λ (e : Event). cond (is_over m i op) [] (e ∷ turns_until behaviour these more (step behaviour m e).machine i op)) (event_alike m i)
+      ∙ ap (λ (es : List Event). cond (is_over m i op) [] (event ∷ es)) (until_alike more (step behaviour m event).machine i op)
 
   call_alike : (m : Machine A) (client : ℕ) (call : Call) → events_of_call behaviour these m client call ≡ events_of_call behaviour those m client call
   call_alike m client call = let s = after_call m client call in ap (λ es. Called client call ∷ es) (until_alike most_turns s.machine s.instance m.queue.next)
@@ -155,6 +158,7 @@ module _ {A : Type 0} (behaviour : Behaviour A) (these those : Marks) (same : (t
     line_alike m (lines.Cancel app client op) = refl
     line_alike m (lines.Fuse calls) = refl
     line_alike m (lines.Power pick) = ap (λ (b : Bool). Restarted (is_some m.in_doubt && b) ∷ []) (kept_same m.boot)
+    line_alike m (lines.Tick ticks) = refl
 
     -- lines make the same happen in one machine
     pub events_alike : (m : Machine A) (script : List Line) → own_events behaviour these kept m script ≡ own_events behaviour those kept_then m script

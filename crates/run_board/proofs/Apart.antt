@@ -67,6 +67,7 @@ boot_behind (lines.Turns app client instance count) boot = boot
 boot_behind (lines.Cancel app client op) boot = boot
 boot_behind (lines.Fuse calls) boot = boot
 boot_behind (lines.Power pick) boot = boot + 1
+boot_behind (lines.Tick ticks) boot = boot
 
 -- a change that is told as that of the application is kept in it where it was kept
 told_own : (kept : ℕ → Bool) (app : ℕ) → kept_by (told_of (Some app) (kept app)) app ≡ kept app
@@ -124,6 +125,7 @@ module _ {A : Type 0} (behaviour : Behaviour A) where
     line_there w (lines.Cancel a client op) = (inl refl, tt)
     line_there w (lines.Fuse calls) = (tt, tt)
     line_there w (lines.Power pick) = (tt, tt)
+    line_there w (lines.Tick ticks) = (tt, tt)
 
     -- the events of lines are of applications that are there, but for those that no other meets
     script_there : (count : ℕ) (w : World A) (script : List Line) → length w ≡ count → AllByRecursion (IsThere count) (events_of behaviour weather w script)
@@ -151,6 +153,7 @@ module _ {A : Type 0} (behaviour : Behaviour A) where
     line_same app w m (lines.Cancel a client op) alone h = events_same behaviour app a (Cancelled op ∷ []) h
     line_same app w m (lines.Fuse calls) alone h = absurd (let e : false ≡ true = h in cc)
     line_same app w m (lines.Power pick) alone h = ap (λ (b : Bool). Restarted b ∷ []) (kept_own weather.kept app w m alone)
+    line_same app w m (lines.Tick ticks) alone h = refl
 
     called_none : (app a client : ℕ) (call : Call) (o : Option (Machine A)) → eqb a app ≡ false → OthersLoseNone app weather
         → events_for app (happens (called_at behaviour (weather.marks a) a client call o)) ≡ []
@@ -174,6 +177,7 @@ module _ {A : Type 0} (behaviour : Behaviour A) where
     line_none app w (lines.Cancel a client op) h none = events_none behaviour app a (Cancelled op ∷ []) h (refl, tt)
     line_none app w (lines.Fuse calls) h none = refl
     line_none app w (lines.Power pick) h none = absurd (let e : true ≡ false = h in cc)
+    line_none app w (lines.Tick ticks) h none = absurd (let e : true ≡ false = h in cc)
 
     -- ---- losses of power and changes in doubt
 
@@ -201,6 +205,7 @@ module _ {A : Type 0} (behaviour : Behaviour A) where
     line_boots i w n (lines.Cancel a client op) = boots_at i a (Cancelled op ∷ []) n (tt, tt)
     line_boots i w n (lines.Fuse calls) = refl
     line_boots i w n (lines.Power pick) = refl
+    line_boots i w n (lines.Tick ticks) = refl
 
     calm_at : (i a : ℕ) (events : List Event) (n : Machine A) → (a ≡ i → AllByRecursion LeavesAnother events) → n.in_doubt ≡ None
         → (machine_after behaviour n (events_for i (happens (events_at behaviour a events)))).in_doubt ≡ None
@@ -228,6 +233,7 @@ module _ {A : Type 0} (behaviour : Behaviour A) where
       line_calm w (lines.Cancel a client op) = calm_at i a (Cancelled op ∷ []) n (λ _. (refl, tt)) calm
       line_calm w (lines.Fuse calls) = calm
       line_calm w (lines.Power pick) = refl
+      line_calm w (lines.Tick ticks) = calm
 
     -- that stays so behind each line, where no turn of another is lost
     alone_behind : (app : ℕ) (w : World A) (m : Machine A) (line : Line) → IsAlone app w m → OthersLoseNone app weather

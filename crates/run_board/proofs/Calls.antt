@@ -1,4 +1,4 @@
--- A call, and turns until it is answered.
+-- A call, and turns until it is answered or its instance waits.
 use Rattle.app_api.specs.Behaviours.{Behaviour}
 use Rattle.std.proofs.Common.{ℕ, zero, suc, ◌≡◌, ◌<◌, ◌≤◌, ◌+◌, ◌-◌, Bool, true, false, cond, List, [], ◌∷◌, ◌++◌, Option, None, Some, refl, sym, ◌∙◌, ap, append-nil, arith}
 use Rattle.std.specs.Prelude.{slice_get}
@@ -6,7 +6,7 @@ use Rattle.app_api.specs.declared.call.Call.{Call}
 use Rattle.alone.specs.Machine.{Machine}
 use Rattle.alone.specs.Marks.{Marks, event_at}
 use Rattle.alone.specs.Runs.{most_turns, turns_until}
-use Rattle.alone.specs.Step.{Event, Called, after_call, is_answered, step}
+use Rattle.alone.specs.Step.{Event, Called, after_call, is_over, step}
 use Rattle.epoch.specs.Forms.{Form}
 use Rattle.script.specs.declared.line.Line.TheVariants as lines
 use Rattle.tee_core.specs.declared.happened.Event.TheVariants as events
@@ -22,9 +22,9 @@ unfolding most_turns
 most_are = refl
 
 module _ {A : Type 0} (behaviour : Behaviour A) where
-  -- ---- turns until an answer
+  -- ---- turns until an answer or a wait
 
-  until_first : (weather : Weather) (w : World A) (app i op j : ℕ) (m : Machine A) → slice_get w app ≡ Some m → is_answered m op ≡ false
+  until_first : (weather : Weather) (w : World A) (app i op j : ℕ) (m : Machine A) → slice_get w app ≡ Some m → is_over m i op ≡ false
       → until_at behaviour (weather.marks app) app i op (suc j) (Some m)
       ≡ happens (turned_at behaviour (weather.marks app) app i 1 (Some m))
       ++ until_events behaviour (weather.marks app) (after_events behaviour w (happens (turned_at behaviour (weather.marks app) app i 1 (Some m)))) app i op j
@@ -34,8 +34,8 @@ module _ {A : Type 0} (behaviour : Behaviour A) where
       ap (λ b. happens (events_at behaviour app (cond b [] (event ∷ turns_until behaviour marks j (step behaviour m event).machine i op)))) waits
       ∙ ap (λ o. Happens (record { app = app; event = event }) ∷ until_at behaviour marks app i op j o) (sym (at_step behaviour w app m event here))
 
-  -- where it isn't answered they are one turn, and then the others
-  pub until_split : (weather : Weather) (w : World A) (app i op count k : ℕ) (m : Machine A) → k < count → slice_get w app ≡ Some m → is_answered m op ≡ false
+  -- where it isn't over they are one turn, and then the others
+  pub until_split : (weather : Weather) (w : World A) (app i op count k : ℕ) (m : Machine A) → k < count → slice_get w app ≡ Some m → is_over m i op ≡ false
       → until_events behaviour (weather.marks app) w app i op (count - k)
       ≡ step_events behaviour weather w (events.Turn app i)
       ++ until_events behaviour (weather.marks app) (after_events behaviour w (step_events behaviour weather w (events.Turn app i))) app i op (count - (k + 1))
@@ -52,14 +52,14 @@ module _ {A : Type 0} (behaviour : Behaviour A) where
       → until_events behaviour (weather.marks app) w app i op count ≡ until_events behaviour (weather.marks app) w app i op (count - 0)
   until_all weather w app i op count = let same : count ≡ count - 0 = omega arith in ap (λ n. until_events behaviour (weather.marks app) w app i op n) same
 
-  done_at : (marks : Marks) (app i op n : ℕ) (m : Machine A) → is_answered m op ≡ true → until_at behaviour marks app i op n (Some m) ≡ []
+  done_at : (marks : Marks) (app i op n : ℕ) (m : Machine A) → is_over m i op ≡ true → until_at behaviour marks app i op n (Some m) ≡ []
   done_at marks app i op zero m done = refl
   done_at marks app i op (suc n) m done =
       let event : Event = event_at marks m i in
       ap (λ b. happens (events_at behaviour app (cond b [] (event ∷ turns_until behaviour marks n (step behaviour m event).machine i op)))) done
 
-  -- there are none where it is answered
-  pub until_done : (weather : Weather) (w : World A) (app i op n : ℕ) (m : Machine A) → slice_get w app ≡ Some m → is_answered m op ≡ true
+  -- there are none where it is over
+  pub until_done : (weather : Weather) (w : World A) (app i op n : ℕ) (m : Machine A) → slice_get w app ≡ Some m → is_over m i op ≡ true
       → until_events behaviour (weather.marks app) w app i op n ≡ []
   until_done weather w app i op n m here done = ap (λ o. until_at behaviour (weather.marks app) app i op n o) here ∙ done_at (weather.marks app) app i op n m done
 
@@ -88,7 +88,7 @@ module _ {A : Type 0} (behaviour : Behaviour A) where
       ∙ ap (λ n. first ∷ happens (events_at behaviour app (turns_until behaviour marks most_turns then instance n))) (sym number)
       ∙ ap (λ o. first ∷ until_at behaviour marks app instance op most_turns o) (sym (at_step behaviour w app m (Called client call) here))
 
-  -- a call line that isn't posted is the call, and then turns until it is answered
+  -- a call line that isn't posted is the call, and then turns until it is over
   pub call_split : (weather : Weather) (w : World A) (app client instance op : ℕ) (call : Call) (m : Machine A) → slice_get w app ≡ Some m → op ≡ m.queue.next
       → instance ≡ (after_call m client call).instance
       → line_events behaviour weather w (lines.Call app client false call)
@@ -114,7 +114,7 @@ module _ {A : Type 0} (behaviour : Behaviour A) where
   -- ---- the call, and then turns
 
   module _ (form : Form) (names : List (List ℕ)) (Stands : World A → Type 0) where
-    -- a call, and turns until it is answered, or as many as there are at most
+    -- a call, and turns until it is over, or as many as there are at most
     pub call_whole : (Then : World A → Type 0) (w : World A) (m : Machine A) (app client instance op : ℕ) (call : Call)
         → slice_get w app ≡ Some m → op ≡ m.queue.next → instance ≡ (after_call m client call).instance
         → (old mid new : Point) → IsRunOf behaviour form names (λ weather. step_events behaviour weather w (events.Call app client call)) w Stands old mid

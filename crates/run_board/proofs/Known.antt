@@ -23,6 +23,7 @@ known_line hosts client words (lines.Turns app owner instance count) fill within
 known_line hosts client words (lines.Cancel app owner op) fill within h = known_host hosts h.1 app h.3
 known_line hosts client words (lines.Fuse count) fill within h = tt
 known_line hosts client words (lines.Power pick) fill within h = tt
+known_line hosts client words (lines.Tick ticks) fill within h = tt
 
 known_meaning : {A : Type 0} (hosts : List (Host A)) (client : ℕ) (text : List ℕ) (meaning : Meaning) (fill : ℕ) → client < MAX_CLIENTS → Means hosts client text meaning fill →
     AllByRecursion (IsKnown (length hosts)) (lines_of meaning)

@@ -213,3 +213,8 @@ module _ {A : Type 0} (behaviour : Behaviour A) (form : Form) (names : List (Lis
       → MakesEvents behaviour form names (λ world weather. line_events behaviour weather world (lines.Cancel app client op)) r old new
       → RunsLines behaviour form names (lines.Cancel app client op ∷ []) (λ world weather. line_events behaviour weather world (lines.Cancel app client op)) r old new
   line_of_cancel app client op r old new part = line_of_events (lines.Cancel app client op) r old new refl part
+
+  pub line_of_ticks : {X : Type 0} (ticks : ℕ) (r : Result X Stop) (old new : Place A)
+      → MakesEvents behaviour form names (λ world weather. line_events behaviour weather world (lines.Tick ticks)) r old new
+      → RunsLines behaviour form names (lines.Tick ticks ∷ []) (λ world weather. line_events behaviour weather world (lines.Tick ticks)) r old new
+  line_of_ticks ticks r old new part = line_of_events (lines.Tick ticks) r old new refl part

@@ -23,6 +23,7 @@ pub mod Served
 pub mod Single
 pub mod Summed
 pub mod Texts
+pub mod Ticks
 pub mod Turns
 pub mod Under
 pub mod Weather

@@ -8,13 +8,13 @@ use Rattle.std.proofs.lemmas.Grind.{flat_map-append}
 use Rattle.std.proofs.lemmas.List.{length-map, length-set}
 use Rattle.alone.specs.Machine.{Machine}
 use Rattle.alone.specs.Runs.{machine_after}
-use Rattle.alone.specs.Step.{Event, Called, Cancelled, Turned, TurnLost, Corrupted, Lost, Starved, Restarted, step}
+use Rattle.alone.specs.Step.{Event, Called, Cancelled, Turned, TurnLost, Corrupted, Lost, Starved, Restarted, Ticked, step}
 use Rattle.script.proofs.Cuts.{all_append}
 use Rattle.tee_core.specs.Powers.{kept_by, restarts_from}
 use Rattle.tee_core.specs.World.{World, AppEvent, events_at, met_by_others, moved_at, world_step}
 use Rattle.tee_core.proofs.SideLemmas.{get_other, get_set, get_there}
 use Rattle.run_board.specs.Isolation.{app_met_at, events_for, met_at, met_by_another}
-use Rattle.run_board.specs.Transcript.{WorldEvent, Fused, Happens, Powered, after_event, after_events, happens}
+use Rattle.run_board.specs.Transcript.{WorldEvent, Fused, Happens, Powered, Ticks, after_event, after_events, happens}
 use Rattle.run_board.proofs.Alike.{LeavesAnother}
 use Rattle.run_board.proofs.LinesFor.{which}
 
@@ -51,6 +51,7 @@ abbrev pub IsThere : ℕ → WorldEvent → Type 0
 IsThere count (Happens e) = LeavesAnother e.event ⊎ (e.app < count)
 IsThere count (Fused calls) = Unit {0}
 IsThere count (Powered pick told) = Unit {0}
+IsThere count (Ticks ticks) = Unit {0}
 
 -- what is so of a loss is so of all that another meets
 another_all : (P : Event → Type 0) → P Lost → (event : Event) → AllByRecursion P (met_by_another event)
@@ -62,6 +63,7 @@ another_all P lost (Corrupted i) = tt
 another_all P lost Lost = tt
 another_all P lost (Starved i) = tt
 another_all P lost (Restarted took) = tt
+another_all P lost (Ticked ticks) = tt
 
 module _ {A : Type 0} (behaviour : Behaviour A) where
   -- the events of a call are those of its application
@@ -113,6 +115,7 @@ module _ {A : Type 0} (behaviour : Behaviour A) where
   others_met app w m Lost here = here
   others_met app w m (Starved i) here = here
   others_met app w m (Restarted took) here = here
+  others_met app w m (Ticked ticks) here = here
 
   others_length : (w : World A) (event : Event) → length (met_by_others behaviour event w) ≡ length w
   others_length w (Called client call) = refl
@@ -123,6 +126,7 @@ module _ {A : Type 0} (behaviour : Behaviour A) where
   others_length w Lost = refl
   others_length w (Starved i) = refl
   others_length w (Restarted took) = refl
+  others_length w (Ticked ticks) = refl
 
   moved_length : (a : ℕ) (w : World A) (event : Event) (o : Option (Machine A)) → length (moved_at behaviour w a event o) ≡ length w
   moved_length a w event None = refl
@@ -139,6 +143,7 @@ module _ {A : Type 0} (behaviour : Behaviour A) where
   event_length w (Happens e) = step_length w e
   event_length w (Fused calls) = refl
   event_length w (Powered pick told) = restarts_length (kept_by told) 0 w
+  event_length w (Ticks ticks) = length-map w (λ (n : Machine A). (step behaviour n (Ticked ticks)).machine)
 
   pub after_length : (w : World A) (events : List WorldEvent) → length (after_events behaviour w events) ≡ length w
   after_length w [] = refl
@@ -194,6 +199,7 @@ module _ {A : Type 0} (behaviour : Behaviour A) where
   event_met app w m (Powered pick told) here there =
       let sum : 0 + app ≡ app = omega arith in
       restart_met (kept_by told) 0 app w m here ∙ ap (λ (k : ℕ). Some (step behaviour m (Restarted (kept_by told k))).machine) sum
+  event_met app w m (Ticks ticks) here there = get_map (λ (n : Machine A). (step behaviour n (Ticked ticks)).machine) w app m here
 
   -- after events, the machine has met its own
   pub machine_met : (app count : ℕ) (w : World A) (m : Machine A) (events : List WorldEvent) → length w ≡ count → AllByRecursion (IsThere count) events → slice_get w app ≡ Some m

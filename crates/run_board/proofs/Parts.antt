@@ -11,13 +11,13 @@ use Rattle.epoch.specs.Forms.{Form}
 use Rattle.tee_base.specs.Faults.{Rose}
 use Rattle.script.specs.declared.line.Line.{Line}
 use Rattle.script.specs.declared.line.Line.TheVariants as lines
-use Rattle.tee_core.specs.World.{World, AppEvent, world_after, world_step}
+use Rattle.tee_core.specs.World.{World, AppEvent, after_ticks, world_after, world_step}
 use Rattle.tee_core.specs.Powers.{after_power}
 use Rattle.run_board.specs.BoardLines.{IsOwnerKnown}
 use Rattle.run_board.specs.Boards.{GoesAlong, HasFirstOrders, HasOrders, HasPower, IsSpan, RoseBy, RunsAlong, losses_of, numbers_of, order_of, orders_after, orders_of, with_orders}
 use Rattle.run_board.specs.Logs.{AreKnown, Entry, Item, IsWrittenOf, OfApp, OfBoard, entries_in, item_text, log_text, powers_told}
 use Rattle.run_board.specs.Parts.{AgreeWith, AreTold, HasNoDamage, IsTextOfAllBut, count_powers, entry_of, items_of, log_of}
-use Rattle.run_board.specs.Transcript.{Weather, WorldEvent, Fused, Happens, Powered, after_event, after_events, event_lines, happens, machine_lines, power_line, text_of}
+use Rattle.run_board.specs.Transcript.{Weather, WorldEvent, Fused, Happens, Powered, Ticks, after_event, after_events, event_lines, happens, machine_lines, power_line, text_of}
 
 pub all_both : {X : Type 0} (P : X → Type 0) (xs ys : List X) → AllByRecursion P xs → AllByRecursion P ys → AllByRecursion P (xs ++ ys)
 all_both P [] ys h k = k
@@ -61,6 +61,7 @@ undamaged_both [] ys h k = k
 undamaged_both (Happens e ∷ xs) ys h k = (h.0, undamaged_both xs ys h.1 k)
 undamaged_both (Fused calls ∷ xs) ys h k = undamaged_both xs ys h k
 undamaged_both (Powered pick told ∷ xs) ys h k = undamaged_both xs ys h k
+undamaged_both (Ticks ticks ∷ xs) ys h k = undamaged_both xs ys h k
 
 pub happens_both : (xs ys : List AppEvent) → happens (xs ++ ys) ≡ happens xs ++ happens ys
 happens_both [] ys = refl
@@ -86,6 +87,7 @@ module _ {A : Type 0} (behaviour : Behaviour A) where
   count_both [] ys = omega arith
   count_both (Happens e ∷ xs) ys = count_both xs ys
   count_both (Fused calls ∷ xs) ys = count_both xs ys
+  count_both (Ticks ticks ∷ xs) ys = count_both xs ys
   count_both (Powered pick told ∷ xs) ys = let more = count_both xs ys in omega (arith, more)
 
   pub no_powers : (es : List AppEvent) → count_powers behaviour (happens es) ≡ 0
@@ -102,6 +104,7 @@ module _ {A : Type 0} (behaviour : Behaviour A) where
   told_both power w [] ys h k = let same : power + 0 ≡ power = omega arith in subst (λ n. AreTold behaviour n w ys) same k
   told_both power w (Happens e ∷ xs) ys h k = told_both power (world_step behaviour w e) xs ys h k
   told_both power w (Fused calls ∷ xs) ys h k = told_both power w xs ys h k
+  told_both power w (Ticks ticks ∷ xs) ys h k = told_both power (after_ticks behaviour w ticks) xs ys h k
   told_both power w (Powered pick told ∷ xs) ys h k =
       let same : power + (count_powers behaviour xs + 1) ≡ power + 1 + count_powers behaviour xs = omega arith in
       let then : World A = after_power behaviour w told in
@@ -126,6 +129,7 @@ module _ {A : Type 0} (behaviour : Behaviour A) where
   event_is : (names : List (List ℕ)) (w : World A) (e : WorldEvent) → event_lines behaviour names w e ≡ log_text names (items_of behaviour w e)
   event_is names w (Happens e) = machine_is names e.app e.event (slice_get w e.app)
   event_is names w (Fused calls) = refl
+  event_is names w (Ticks ticks) = refl
   event_is names w (Powered pick told) = sym (append-nil (power_line names told))
 
   pub text_is_log : (names : List (List ℕ)) (w : World A) (es : List WorldEvent) → text_of behaviour names w es ≡ log_text names (log_of behaviour w es)
@@ -173,6 +177,7 @@ module _ {A : Type 0} (behaviour : Behaviour A) where
   items_few : (w : World A) (e : WorldEvent) → length (items_of behaviour w e ++ []) ≤ 1
   items_few w (Happens e) = entry_few e.app e.event (slice_get w e.app)
   items_few w (Fused calls) = omega arith
+  items_few w (Ticks ticks) = omega arith
   items_few w (Powered pick told) = omega arith
 
   log_few : (w : World A) (es : List WorldEvent) → length es ≤ 1 → length (log_of behaviour w es) ≤ 1
@@ -257,6 +262,7 @@ module _ {A : Type 0} (behaviour : Behaviour A) (form : Form) (key : List ℕ) w
       let then : World A = world_step behaviour w e in
       subst (λ n. GoesAlong behaviour form key start n then es made end) same (span_before losses (more + losses_of e.event) then start mid es made end h k)
   span_before losses more w start mid (Fused calls ∷ es) [] end h k = absurd k
+  span_before losses more w start mid (Ticks ticks ∷ es) made end h k = span_before losses more (after_ticks behaviour w ticks) start mid es made end h k
   span_before losses more w start mid (Fused calls ∷ es) (order ∷ made) end h k = (span_both losses more start mid order.before h k.0, k.1, k.2)
   span_before losses more w start mid (Powered pick told ∷ es) [] end h k = absurd k
   span_before losses more w start mid (Powered pick told ∷ es) (order ∷ made) end h k = (span_both losses more start mid order.before h k.0, k.1, k.2, k.3)
@@ -272,6 +278,7 @@ module _ {A : Type 0} (behaviour : Behaviour A) (form : Form) (key : List ℕ) w
   along_both losses w start mid (Happens e ∷ xs) ys made more end h k =
       along_both (losses + losses_of e.event) (world_step behaviour w e) start mid xs ys made more end h k
   along_both losses w start mid (Fused calls ∷ xs) ys [] more end h k = absurd h
+  along_both losses w start mid (Ticks ticks ∷ xs) ys made more end h k = along_both losses (after_ticks behaviour w ticks) start mid xs ys made more end h k
   along_both losses w start mid (Fused calls ∷ xs) ys (order ∷ made) more end h k = (h.0, h.1, along_both 0 w order.after mid xs ys made more end h.2 k)
   along_both losses w start mid (Powered pick told ∷ xs) ys [] more end h k = absurd h
   along_both losses w start mid (Powered pick told ∷ xs) ys (order ∷ made) more end h k =

@@ -15,7 +15,7 @@ use Rattle.app_api.specs.declared.host.Host.{Host}
 use Rattle.alone.specs.Machine.{Machine, start}
 use Rattle.alone.specs.Marks.{Marks, event_at, no_marks}
 use Rattle.alone.specs.Runs.{events_of_call, machine_after, most_turns, turns_of, turns_until}
-use Rattle.alone.specs.Step.{Event, Called, Cancelled, Turned, TurnLost, Corrupted, Lost, Starved, Restarted, after_call, is_answered, is_enabled, step}
+use Rattle.alone.specs.Step.{Event, Called, Cancelled, Turned, TurnLost, Corrupted, Lost, Starved, Restarted, Ticked, after_call, is_enabled, is_over, step}
 use Rattle.report.specs.Texts.{mark_text}
 use Rattle.script.specs.Grammar.{names_of}
 use Rattle.script.specs.declared.line.Line.{Line}
@@ -25,7 +25,7 @@ use Rattle.tee_core.specs.World.{AppEvent, world_of}
 use Rattle.run_board.specs.BoardLines.{begins_with, has_line, weather_in, whole_lines}
 use Rattle.run_board.specs.Isolation.{HasNoLine, IsCalmText, OthersLoseNone, app_met_at, events_for, lines_for, mark_front, met_by_another, own_events, own_line_events, own_lines, own_text}
 use Rattle.run_board.specs.Parts.{HasNoDamage, IsUndamaged}
-use Rattle.run_board.specs.Transcript.{Weather, WorldEvent, Fused, Happens, Powered, events_of}
+use Rattle.run_board.specs.Transcript.{Weather, WorldEvent, Fused, Happens, Powered, Ticks, events_of}
 use Rattle.run_board.proofs.Alike.{LeavesAnother, call_all, calm_stays, chosen, event_is, turn_leaves, turns_all}
 use Rattle.run_board.proofs.Apart.{own_events_met, written_alone}
 use Rattle.run_board.proofs.Parts.{all_both, all_first}
@@ -72,6 +72,7 @@ another_undamaged (Corrupted i) = tt
 another_undamaged Lost = tt
 another_undamaged (Starved i) = tt
 another_undamaged (Restarted took) = tt
+another_undamaged (Ticked ticks) = tt
 
 met_undamaged : (app : ℕ) (e : AppEvent) → IsUndamaged e.event → AllByRecursion IsUndamaged (app_met_at app e)
 met_undamaged app e h =
@@ -82,6 +83,7 @@ events_undamaged app [] h = tt
 events_undamaged app (Happens e ∷ events) h = all_both IsUndamaged (app_met_at app e) (events_for app events) (met_undamaged app e h.0) (events_undamaged app events h.1)
 events_undamaged app (Fused calls ∷ events) h = events_undamaged app events h
 events_undamaged app (Powered pick told ∷ events) h = (tt, events_undamaged app events h)
+events_undamaged app (Ticks ticks ∷ events) h = (tt, events_undamaged app events h)
 
 all_behind : {X : Type 0} (P : X → Type 0) (xs ys : List X) → AllByRecursion P (xs ++ ys) → AllByRecursion P ys
 all_behind P [] ys h = h
@@ -125,7 +127,7 @@ module _ {A : Type 0} (behaviour : Behaviour A) (marks : Marks) (lossless : (tur
   until_plain zero m i op h = refl
   until_plain (suc more) m i op h =
       let event : Event = event_at no_marks m i in
-      cond_plain (is_answered m op) (event_at marks m i ∷ turns_until behaviour marks more (step behaviour m (event_at marks m i)).machine i op)
+      cond_plain (is_over m i op) (event_at marks m i ∷ turns_until behaviour marks more (step behaviour m (event_at marks m i)).machine i op)
       (event ∷ turns_until behaviour no_marks more (step behaviour m event).machine i op)
       (λ all.
       let same = event_plain m i all.0 in
@@ -148,6 +150,7 @@ module _ {A : Type 0} (behaviour : Behaviour A) (marks : Marks) (lossless : (tur
     line_plain m (lines.Fuse calls) calm h = refl
     line_plain m (lines.Power pick) calm h =
         ap (λ (o : Option Store). Restarted (is_some o && kept m.boot) ∷ []) calm ∙ sym (ap (λ (o : Option Store). Restarted (is_some o && false) ∷ []) calm)
+    line_plain m (lines.Tick ticks) calm h = refl
 
     line_leaves : (m : Machine A) (line : Line) → AllByRecursion LeavesAnother (own_line_events behaviour no_marks (λ power. false) m line)
     line_leaves m (lines.Call app client true call) = (refl, tt)
@@ -156,6 +159,7 @@ module _ {A : Type 0} (behaviour : Behaviour A) (marks : Marks) (lossless : (tur
     line_leaves m (lines.Cancel app client op) = (refl, tt)
     line_leaves m (lines.Fuse calls) = tt
     line_leaves m (lines.Power pick) = (refl, tt)
+    line_leaves m (lines.Tick ticks) = (refl, tt)
 
     own_plain : (m : Machine A) (script : List Line) → m.in_doubt ≡ None → AllByRecursion IsUndamaged (own_events behaviour marks kept m script)
         → own_events behaviour marks kept m script ≡ own_events behaviour no_marks (λ power. false) m script

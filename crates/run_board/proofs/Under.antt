@@ -12,13 +12,13 @@ use Rattle.alone.specs.declared.power.Power.{Power}
 use Rattle.alone.specs.declared.power.Power.TheVariants.{Clean, Kept, Absent}
 use Rattle.alone.specs.Machine.{Machine}
 use Rattle.alone.specs.Runs.{machine_after}
-use Rattle.alone.specs.Step.{Event, Called, Cancelled, Turned, TurnLost, Corrupted, Lost, Starved, Restarted, step}
+use Rattle.alone.specs.Step.{Event, Called, Cancelled, Turned, TurnLost, Corrupted, Lost, Starved, Restarted, Ticked, step}
 use Rattle.script.specs.Grammar.{names_of}
 use Rattle.script.proofs.Cuts.{Lacks}
 use Rattle.tee_core.specs.Happenings.{happened_in}
 use Rattle.tee_core.specs.World.{World, AppEvent, world_step}
 use Rattle.run_board.specs.Isolation.{events_for, lines_for, met_at, met_by_another, own_text}
-use Rattle.run_board.specs.Transcript.{WorldEvent, Fused, Happens, Powered, after_event, happened_lines, machine_lines, owner_name, text_of}
+use Rattle.run_board.specs.Transcript.{WorldEvent, Fused, Happens, Powered, Ticks, after_event, happened_lines, machine_lines, owner_name, text_of}
 use Rattle.run_board.proofs.LinesFor.{AreOther, other_happened, other_power, own_happened, which}
 use Rattle.run_board.proofs.Names.{CanName, hosts_can_name}
 use Rattle.run_board.proofs.Meeting.{IsThere, event_length, event_met, met_other, met_own, read_at, step_length, step_other, step_own, within}
@@ -105,6 +105,7 @@ module _ {A : Type 0} (behaviour : Behaviour A) where
   loss_unwritten name m Lost more = refl
   loss_unwritten name m (Starved i) more = refl
   loss_unwritten name m (Restarted took) more = refl
+  loss_unwritten name m (Ticked ticks) more = refl
 
   -- what is written of events under the name is the text of those that its machine meets
   pub text_met : (names : List (List ℕ)) (app : ℕ) (name : List ℕ) (w : World A) (m : Machine A) (events : List WorldEvent) → IsNamed names app name → length w ≡ length names
@@ -137,6 +138,10 @@ module _ {A : Type 0} (behaviour : Behaviour A) where
             ∙ ap (λ (es : List Event). own_text behaviour name m (es ++ events_for app events)) (sym (met_other app e h))
       ]
   text_met names app name w m (Fused calls ∷ events) named many there here = text_met names app name w m events named many there.1 here
+  text_met names app name w m (Ticks ticks ∷ events) named many there here =
+      let event : WorldEvent = Ticks ticks in
+      text_met names app name (after_event behaviour w event) (machine_after behaviour m (met_at app event)) events named (event_length behaviour w event ∙ many) there.1
+      (event_met behaviour app w m event here tt)
   text_met names app name w m (Powered pick told ∷ events) named many there here =
       let event : WorldEvent = Powered pick told in
       let next : World A = after_event behaviour w event in

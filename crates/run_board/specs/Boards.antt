@@ -2,7 +2,7 @@
 use Rattle.app_api.specs.Behaviours.{Behaviour}
 use Rattle.std.specs.Prelude.{ℕ, ◌≡◌, ◌≤◌, ◌+◌, ◌-◌, ◌%◌, ◌^◌, ◌⊎◌, ⊤, List, [], ◌∷◌, ◌++◌, Option, Err, map}
 use Rattle.std.specs.Io.KnownBytes.{Appends}
-use Rattle.alone.specs.Step.{Event, Called, Cancelled, Turned, TurnLost, Corrupted, Lost, Starved, Restarted}
+use Rattle.alone.specs.Step.{Event, Called, Cancelled, Turned, TurnLost, Corrupted, Lost, Starved, Restarted, Ticked}
 use Rattle.board.specs.Moment.{Moment, Order, View, IsCounter}
 use Rattle.board.specs.Runs.{Rests}
 use Rattle.epoch.specs.Forms.{Form, Root}
@@ -18,9 +18,9 @@ use Rattle.tee_base.specs.Faults.{Rose}
 use Rattle.tee_core.specs.Moments.{LeavesStoresAt}
 use Rattle.tee_core.specs.Opening.{IsSoundFor}
 use Rattle.tee_core.specs.Powers.{after_power}
-use Rattle.tee_core.specs.World.{World, world_step}
+use Rattle.tee_core.specs.World.{World, after_ticks, world_step}
 use Rattle.run_board.specs.BoardLines.{lost_lines, whole_text}
-use Rattle.run_board.specs.Transcript.{WorldEvent, Happens, Fused, Powered}
+use Rattle.run_board.specs.Transcript.{WorldEvent, Happens, Fused, Powered, Ticks}
 use Rattle.tee_base.specs.Words.{Counter, Image, Key, Sequence, Text}
 
 -- ---- orders
@@ -31,6 +31,7 @@ orders_in [] = []
 orders_in (Happens e ∷ more) = orders_in more
 orders_in (Fused calls ∷ more) = calls ∷ orders_in more
 orders_in (Powered pick told ∷ more) = pick ∷ orders_in more
+orders_in (Ticks ticks ∷ more) = orders_in more
 
 -- the number of a line's order, if it is one
 abbrev pub order_of : Line → List ℕ
@@ -39,6 +40,7 @@ order_of (lines.Turns app client instance count) = []
 order_of (lines.Cancel app client op) = []
 order_of (lines.Fuse calls) = calls ∷ []
 order_of (lines.Power pick) = pick ∷ []
+order_of (lines.Tick ticks) = []
 
 -- the numbers of the orders among lines
 abbrev pub orders_of : List Line → List ℕ
@@ -107,6 +109,7 @@ losses_of (Corrupted instance) = 0
 losses_of Lost = 0
 losses_of (Starved instance) = 0
 losses_of (Restarted took) = 0
+losses_of (Ticked ticks) = 0
 
 -- whole lines were written, and at least as many calls failed as lines among them say that a turn lost the storage
 pub record WritesLosses (before after : Option (List ℕ)) (old new : View) : Type 0 where
@@ -191,6 +194,7 @@ module _ {A : Type 0} (behaviour : Behaviour A) (form : Form) (key : Key) where
   GoesAlong start losses world [] (order ∷ orders) end = ⊥
   GoesAlong start losses world (Happens e ∷ more) orders end =
       GoesAlong start (losses + losses_of e.event) (world_step behaviour world e) more orders end
+  GoesAlong start losses world (Ticks ticks ∷ more) orders end = GoesAlong start losses (after_ticks behaviour world ticks) more orders end
   GoesAlong start losses world (Fused calls ∷ more) [] end = ⊥
   GoesAlong start losses world (Fused calls ∷ more) (order ∷ orders) end =
       IsSpan losses start order.before × IsOrder calls order × GoesAlong order.after 0 world more orders end

@@ -6,7 +6,7 @@ use Rattle.app_api.specs.declared.host.Host.{Host}
 use Rattle.alone.specs.Machine.{Machine}
 use Rattle.alone.specs.Marks.{Marks}
 use Rattle.alone.specs.Runs.{events_of_call, machine_after, turns_of}
-use Rattle.alone.specs.Step.{Event, Called, Cancelled, Turned, TurnLost, Corrupted, Lost, Starved, Restarted}
+use Rattle.alone.specs.Step.{Event, Called, Cancelled, Turned, TurnLost, Corrupted, Lost, Starved, Restarted, Ticked}
 use Rattle.script.specs.Grammar.{names_of}
 use Rattle.script.specs.declared.line.Line.{Line}
 use Rattle.script.specs.declared.line.Line.TheVariants as lines
@@ -16,7 +16,7 @@ use Rattle.tee_core.specs.Powers.{kept_by}
 use Rattle.tee_core.specs.World.{AppEvent, world_of}
 use Rattle.run_board.specs.BoardLines.{begins_with, weather_in, whole_lines}
 use Rattle.run_board.specs.Parts.{HasNoDamage}
-use Rattle.run_board.specs.Transcript.{Weather, WorldEvent, Fused, Happens, Powered, events_of, happened_lines, transcript}
+use Rattle.run_board.specs.Transcript.{Weather, WorldEvent, Fused, Happens, Powered, Ticks, events_of, happened_lines, transcript}
 use Rattle.tee_base.specs.Words.{Text}
 
 -- ---- lines of a text
@@ -55,18 +55,20 @@ met_by_another (Corrupted instance) = []
 met_by_another Lost = []
 met_by_another (Starved instance) = []
 met_by_another (Restarted took) = []
+met_by_another (Ticked ticks) = []
 
 -- what an event of an application is for the machine of this index
 abbrev pub app_met_at : ℕ → AppEvent → List Event
 app_met_at app e = if e.app == app then e.event ∷ [] else met_by_another e.event
 
--- what an event is for the machine of this index: a loss of power is a restart of each
+-- what an event is for the machine of this index: a loss of power is a restart of each, and ticks pass for each
 abbrev pub met_at : ℕ → WorldEvent → List Event
 met_at app (Happens e) = app_met_at app e
 met_at app (Fused calls) = []
 met_at app (Powered pick told) = Restarted (kept_by told app) ∷ []
+met_at app (Ticks ticks) = Ticked ticks ∷ []
 
--- what happens to the machine of this index: its own events, a loss for each lost turn of another, and the losses of power
+-- what happens to the machine of this index: its own events, a loss for each lost turn of another, the losses of power, and the ticks
 abbrev pub events_for : ℕ → List WorldEvent → List Event
 events_for app events = flat_map (met_at app) events
 
@@ -80,13 +82,14 @@ OthersLoseNone app weather = (other turn : ℕ) → other ≢ app → (weather.m
 
 -- ---- lines of a script
 
--- whether a line is about the application of this index: it names it, or is a loss of power
+-- whether a line is about the application of this index: it names it, or is a loss of power or of ticks that pass
 abbrev pub is_of : ℕ → Line → Bool
 is_of index (lines.Call app client post call) = app == index
 is_of index (lines.Turns app client instance count) = app == index
 is_of index (lines.Cancel app client op) = app == index
 is_of index (lines.Fuse calls) = false
 is_of index (lines.Power pick) = true
+is_of index (lines.Tick ticks) = true
 
 -- the lines of a script that are about the application of this index
 abbrev pub own_lines : ℕ → List Line → List Line
@@ -102,8 +105,9 @@ module _ {A : Type 0} (behaviour : Behaviour A) where
 
 -- marks say how the application's turns go, and kept whether the loss of power of a number, from 0, kept its change in doubt
 module _ {A : Type 0} (behaviour : Behaviour A) (marks : Marks) (kept : ℕ → Bool) where
-  -- what a line makes happen in one machine: a call, and then turns until it is answered; a posted one is the call alone; so many
-  -- turns, a cancellation, or a restart, which keeps a change in doubt where there is one and that loss of power kept it
+  -- what a line makes happen in one machine: a call, and then turns until it is answered or its instance waits; a posted one is the
+  -- call alone; so many turns, a cancellation, so many ticks, or a restart, which keeps a change in doubt where there is one and that
+  -- loss of power kept it
   abbrev pub own_line_events : Machine A → Line → List Event
   own_line_events m (lines.Call app client true call) = Called client call ∷ []
   own_line_events m (lines.Call app client false call) = events_of_call behaviour marks m client call
@@ -111,6 +115,7 @@ module _ {A : Type 0} (behaviour : Behaviour A) (marks : Marks) (kept : ℕ → 
   own_line_events m (lines.Cancel app client op) = Cancelled op ∷ []
   own_line_events m (lines.Fuse calls) = []
   own_line_events m (lines.Power pick) = Restarted (is_some m.in_doubt && kept m.boot) ∷ []
+  own_line_events m (lines.Tick ticks) = Ticked ticks ∷ []
 
   -- what lines make happen in one machine, one line after the other
   abbrev pub own_events : Machine A → List Line → List Event

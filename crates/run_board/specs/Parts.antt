@@ -8,7 +8,7 @@ use Rattle.alone.specs.declared.power.Power.TheVariants.{Clean, Kept, Absent}
 use Rattle.alone.specs.declared.turn.TurnKind.{TurnKind}
 use Rattle.alone.specs.Machine.{Machine}
 use Rattle.alone.specs.Marks.{Marks}
-use Rattle.alone.specs.Step.{Event, Called, Cancelled, Turned, TurnLost, Corrupted, Lost, Starved, Restarted}
+use Rattle.alone.specs.Step.{Event, Called, Cancelled, Turned, TurnLost, Corrupted, Lost, Starved, Restarted, Ticked}
 use Rattle.board.specs.Moment.{View}
 use Rattle.epoch.specs.Forms.{Form}
 use Rattle.epoch.specs.Mounts.{OrderRun}
@@ -19,10 +19,10 @@ use Rattle.tee_core.specs.declared.happened.Event.{Event as TeeEvent}
 use Rattle.tee_core.specs.declared.happened.Event.TheVariants as tee_events
 use Rattle.tee_core.specs.Happenings.{happened_in, is_corrupt_turn, is_lost_turn, is_starved_turn, kind_met}
 use Rattle.tee_core.specs.Powers.{after_power}
-use Rattle.tee_core.specs.World.{World, turn_events, world_step}
+use Rattle.tee_core.specs.World.{World, after_ticks, turn_events, world_step}
 use Rattle.run_board.specs.Boards.{LeavesStores, RunsAlong}
 use Rattle.run_board.specs.Logs.{AreKnown, Item, OfApp, OfBoard}
-use Rattle.run_board.specs.Transcript.{Weather, WorldEvent, Fused, Happens, Powered, after_event, after_events, events_of, happens, owner_in_doubt, powers_in, text_of, told_by}
+use Rattle.run_board.specs.Transcript.{Weather, WorldEvent, Fused, Happens, Powered, Ticks, after_event, after_events, events_of, happens, owner_in_doubt, powers_in, text_of, told_by}
 use Rattle.tee_base.specs.Words.{Text}
 
 -- the turn of this number is marked as one of this kind
@@ -41,6 +41,7 @@ AgreesAt marks m (Corrupted instance) = IsMarkedAs (kind_met m (Corrupted instan
 AgreesAt marks m Lost = Unit {0}
 AgreesAt marks m (Starved instance) = IsMarkedAs (kind_met m (Starved instance)) marks (m.turns + 1)
 AgreesAt marks m (Restarted took) = Unit {0}
+AgreesAt marks m (Ticked ticks) = Unit {0}
 
 -- the same, where there is such a machine
 abbrev pub AgreesIn : {A : Type 0} → Marks → Option (Machine A) → Event → Type 0
@@ -63,6 +64,7 @@ IsUndamaged (Corrupted instance) = ⊥
 IsUndamaged Lost = Unit {0}
 IsUndamaged (Starved instance) = Unit {0}
 IsUndamaged (Restarted took) = Unit {0}
+IsUndamaged (Ticked ticks) = Unit {0}
 
 -- no event among these met damage
 abbrev pub HasNoDamage : List WorldEvent → Type 0
@@ -70,6 +72,7 @@ HasNoDamage [] = Unit {0}
 HasNoDamage (Happens e ∷ more) = IsUndamaged e.event × HasNoDamage more
 HasNoDamage (Fused calls ∷ more) = HasNoDamage more
 HasNoDamage (Powered pick told ∷ more) = HasNoDamage more
+HasNoDamage (Ticks ticks ∷ more) = HasNoDamage more
 
 -- behaviour has the applications' two stated functions
 module _ {A : Type 0} (behaviour : Behaviour A) where
@@ -83,6 +86,7 @@ module _ {A : Type 0} (behaviour : Behaviour A) where
   items_of world (Happens e) = entry_of e.app e.event (slice_get world e.app)
   items_of world (Fused calls) = []
   items_of world (Powered pick told) = OfBoard told ∷ []
+  items_of world (Ticks ticks) = []
 
   -- what happened in events, one after the other
   abbrev pub log_of : World A → List WorldEvent → List Item
@@ -94,6 +98,7 @@ module _ {A : Type 0} (behaviour : Behaviour A) where
   AgreesOn weather world (Happens e) = AgreesIn (weather.marks e.app) (slice_get world e.app) e.event
   AgreesOn weather world (Fused calls) = Unit {0}
   AgreesOn weather world (Powered pick told) = told_by (weather.kept (powers_in world)) (owner_in_doubt world) ≡ told
+  AgreesOn weather world (Ticks ticks) = Unit {0}
 
   -- the weather is as these events went
   abbrev pub AgreeWith : Weather → World A → List WorldEvent → Type 0
@@ -105,6 +110,7 @@ module _ {A : Type 0} (behaviour : Behaviour A) where
   AreTold power world [] = Unit {0}
   AreTold power world (Happens e ∷ more) = AreTold power (world_step behaviour world e) more
   AreTold power world (Fused calls ∷ more) = AreTold power world more
+  AreTold power world (Ticks ticks ∷ more) = AreTold power (after_ticks behaviour world ticks) more
   AreTold power world (Powered pick told ∷ more) =
       (powers_in world ≡ power) × (owner_in_doubt world ≡ owner_told told) × AreTold (power + 1) (after_power behaviour world told) more
 
@@ -114,6 +120,7 @@ module _ {A : Type 0} (behaviour : Behaviour A) where
   count_powers (Happens e ∷ more) = count_powers more
   count_powers (Fused calls ∷ more) = count_powers more
   count_powers (Powered pick told ∷ more) = count_powers more + 1
+  count_powers (Ticks ticks ∷ more) = count_powers more
 
   -- what a call, a cancellation or a turn is for the world, where turns go as the weather says
   abbrev pub step_events : Weather → World A → TeeEvent → List WorldEvent

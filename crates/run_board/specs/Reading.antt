@@ -86,6 +86,7 @@ IsKnown count (lines.Turns app client instance turns) = app < count
 IsKnown count (lines.Cancel app client op) = app < count
 IsKnown count (lines.Fuse calls) = ⊤
 IsKnown count (lines.Power pick) = ⊤
+IsKnown count (lines.Tick ticks) = ⊤
 
 -- lines of a script that the source had left, where it tells that: each names an application that there is, if it names one, is of a client
 -- that there is, if it is a call, and takes a byte of the text at least

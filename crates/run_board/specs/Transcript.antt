@@ -18,15 +18,16 @@ use Rattle.script.specs.Grammar.{names_of}
 use Rattle.tee_core.specs.declared.happened.Happened.{Happened}
 use Rattle.tee_core.specs.Happenings.{happened_in}
 use Rattle.tee_core.specs.Powers.{after_power, told_of}
-use Rattle.tee_core.specs.World.{World, AppEvent, events_at, run_events, turn_events, world_of, world_step}
+use Rattle.tee_core.specs.World.{World, AppEvent, after_ticks, events_at, run_events, turn_events, world_of, world_step}
 use Rattle.tee_base.specs.Words.{InstanceNumber}
 
 -- an event of one application; a number of calls that the board lets pass; a loss of power, with the number that picks what is left
--- on the board, of which this is told
+-- on the board, of which this is told; ticks that pass for every machine
 pub data WorldEvent : Type 0 where
   Happens : (e : AppEvent) → WorldEvent
   Fused : (calls : ℕ) → WorldEvent
   Powered : (pick : ℕ) (told : Power) → WorldEvent
+  Ticks : (ticks : ℕ) → WorldEvent
 
 -- how the turns of each application went, by its index, and whether the loss of power of a number, counted from 0, kept the change in
 -- doubt of an application
@@ -79,6 +80,7 @@ module _ {A : Type 0} (behaviour : Behaviour A) where
   after_event world (Happens e) = world_step behaviour world e
   after_event world (Fused calls) = world
   after_event world (Powered pick told) = after_power behaviour world told
+  after_event world (Ticks ticks) = after_ticks behaviour world ticks
 
   -- the world after events
   abbrev pub after_events : World A → List WorldEvent → World A
@@ -95,6 +97,7 @@ module _ {A : Type 0} (behaviour : Behaviour A) where
   event_lines names world (Happens e) = machine_lines (slice_index_or names e.app []) e.event (slice_get world e.app)
   event_lines names world (Fused calls) = []
   event_lines names world (Powered pick told) = power_line names told
+  event_lines names world (Ticks ticks) = []
 
   -- the text of events
   abbrev pub text_of : List (List ℕ) → World A → List WorldEvent → List ℕ
@@ -103,8 +106,8 @@ module _ {A : Type 0} (behaviour : Behaviour A) where
 
 -- behaviour has the applications' two stated functions
 module _ {A : Type 0} (behaviour : Behaviour A) where
-  -- turns of an instance of the application that has this machine until the operation is answered, at most so many; nothing where
-  -- there is no machine
+  -- turns of an instance of the application that has this machine until the operation is answered or the instance waits, at most so
+  -- many; nothing where there is no machine
   abbrev pub until_at : Marks → ℕ → InstanceNumber → ℕ → ℕ → Option (Machine A) → List WorldEvent
   until_at marks app instance op most None = []
   until_at marks app instance op most (Some m) = happens (events_at behaviour app (turns_until behaviour marks most m instance op))
@@ -115,9 +118,9 @@ module _ {A : Type 0} (behaviour : Behaviour A) where
 
 -- weather says how the turns of each application go, and what losses of power leave
 module _ {A : Type 0} (behaviour : Behaviour A) (weather : Weather) where
-  -- a call line is a call of its application, and then turns until it is answered; a posted one is the call alone. A line of turns
-  -- is so many turns of its instance, one of a cancellation the cancellation. A line of a fuse is an order to the board, and one of a
-  -- power is a loss of power, the next that the weather tells of
+  -- a call line is a call of its application, and then turns until it is answered or its instance waits; a posted one is the call
+  -- alone. A line of turns is so many turns of its instance, one of a cancellation the cancellation. A line of a fuse is an order to the
+  -- board, one of a power is a loss of power, the next that the weather tells of, and one of ticks is these ticks, for every machine
   abbrev pub line_events : World A → Line → List WorldEvent
   line_events world (lines.Call app client true call) = Happens (record { app = app; event = Called client call }) ∷ []
   line_events world (lines.Call app client false call) = happens (run_events behaviour (weather.marks app) world app client call)
@@ -125,6 +128,7 @@ module _ {A : Type 0} (behaviour : Behaviour A) (weather : Weather) where
   line_events world (lines.Cancel app client op) = Happens (record { app = app; event = Cancelled op }) ∷ []
   line_events world (lines.Fuse calls) = Fused calls ∷ []
   line_events world (lines.Power pick) = Powered pick (told_by (weather.kept (powers_in world)) (owner_in_doubt world)) ∷ []
+  line_events world (lines.Tick ticks) = Ticks ticks ∷ []
 
   -- the events of lines, one line after the other
   abbrev pub events_of : World A → List Line → List WorldEvent

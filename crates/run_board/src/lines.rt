@@ -134,7 +134,7 @@ fn run_turns<B: Board, V: BoardVolume<B>, A: Application, W: Sink>(
     Ok(())
 }
 
-/// Turns of an instance until the operation is answered.
+/// Turns of an instance until the operation is answered, or the instance waits.
 fn run_until<B: Board, V: BoardVolume<B>, A: Application, W: Sink>(
     alloc: Global,
     names: &[Bytes],
@@ -154,7 +154,7 @@ fn run_until<B: Board, V: BoardVolume<B>, A: Application, W: Sink>(
         (point_of B.view B.honest V.board_of W.written W.failures tee.new sink.new) }
 {
     for _ in 0..limits::MAX_CALL_TURNS {
-        if tee.answered(app, op) {
+        if tee.is_over(app, instance, op) {
             return Ok(());
         }
         run_event(alloc, names, tee, app, Event::Turn { app, instance }, sink)?;
@@ -162,7 +162,7 @@ fn run_until<B: Board, V: BoardVolume<B>, A: Application, W: Sink>(
     Ok(())
 }
 
-/// A call, and unless it is posted turns of its instance until it is answered.
+/// A call, and unless it is posted turns of its instance until it is answered or the instance waits.
 fn run_call<B: Board, V: BoardVolume<B>, A: Application, W: Sink>(
     alloc: Global,
     names: &[Bytes],
@@ -227,6 +227,30 @@ fn run_power<B: Board, V: BoardVolume<B>, A: Application, W: Sink>(
     }
 }
 
+/// So many ticks pass.
+///
+/// # Errors
+///
+/// `NoMemory` where 2^63 ticks would have passed: none does then.
+fn run_ticks<B: Board, V: BoardVolume<B>, A: Application, W: Sink>(
+    names: &[Bytes],
+    tee: &mut TeeOver<B, V, A>,
+    ticks: u32,
+    sink: &W,
+) -> Result<(), Stop>
+    requires names { length names.now ≡ app_count tee.old }
+    ensures { MakesEvents A.behaviour V.form names.now
+        (λ world weather. line_events A.behaviour weather world (Line.Tick ticks)) result
+        (point_of B.view B.honest V.board_of W.written W.failures tee.old sink.now)
+        (point_of B.view B.honest V.board_of W.written W.failures tee.new sink.now) }
+{
+    if !tee.may_tick(ticks) {
+        return Err(Stop::NoMemory);
+    }
+    tee.tick(ticks);
+    Ok(())
+}
+
 /// Runs a line.
 fn run_line<B: Board, V: BoardVolume<B>, A: Application, W: Sink>(
     alloc: Global,
@@ -266,6 +290,7 @@ fn run_line<B: Board, V: BoardVolume<B>, A: Application, W: Sink>(
             Ok(())
         }
         Line::Power(pick) => run_power(alloc, names, tee, pick, sink),
+        Line::Tick(ticks) => run_ticks(names, tee, ticks, sink),
     }
 }
 

@@ -23,6 +23,7 @@ pub fn read_lines<S: Source, A: Application>(
     ensures lines { IfOk result (λ lines.
         AreLinesOf dialect hosts.now (S.left source.old) lines.items) }
     ensures few { IfErr result IsReadStatus }
+    // the source's count of failures doesn't fall
     ensures later { S.failures source.old ≤ S.failures source.new }
 {
     let text = match read_all(alloc, source, limits::MAX_SCRIPT_BYTES) {

@@ -141,6 +141,7 @@ fn write_status(line: &mut LineBuffer, status: &Status, names: &[Bytes]) -> Resu
 
 /// What is told of a status, with a line feed; nothing of one that is Done. The names are those of the hosts.
 pub fn status_line(alloc: Global, status: &Status, names: &[Bytes]) -> Result<Bytes, NoMemory>
+    // an application whose log is full is one of the names
     requires { (app : ℕ) → status.now ≡ Status.LogFull app → app < length names.now }
     ensures { IfOk result (λ line. line ≡ status_text names.now status.now) }
 {

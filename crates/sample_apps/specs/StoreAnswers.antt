@@ -4,7 +4,7 @@ use Rattle.std.specs.Prelude.{ℕ, ◌==◌, nat_lt, if◌then◌else◌, List, 
 use Rattle.std.specs.Int.{w32, to_le_bytes}
 use Rattle.tee_base.specs.declared.codes.Code.{Code}
 use Rattle.app_api.specs.declared.ask.Answer.{Answer}
-use Rattle.app_api.specs.declared.ask.Answer.TheVariants.{Done, Refused, Number, Truth, Content, Short, Object, Found, Identity}
+use Rattle.app_api.specs.declared.ask.Answer.TheVariants.{Done, Refused, Number, Truth, Content, Short, Object, Found, Identity, Time}
 use Rattle.app_api.specs.declared.ask.Ask.TheVariants as asked
 use Rattle.app_api.specs.declared.out.Out.TheVariants.{Value, Mem, Size}
 use Rattle.app_api.specs.declared.out.Outs.{Outs}
@@ -12,10 +12,10 @@ use Rattle.app_api.specs.Outs.{no_outs}
 use Rattle.app_kit.specs.declared.reaction.Reaction.{Reaction}
 use Rattle.sample_apps.specs.declared.store.Store.{Store}
 use Rattle.sample_apps.specs.declared.store.Store.TheVariants.{Idle, Opening, Creating, Acting, Describing, Reading, MakingList, StartingList}
-use Rattle.sample_apps.specs.declared.store.Store.TheVariants.{Listing, FreeingList, Polling, Unmasking, Watching, Drawing, Identifying}
+use Rattle.sample_apps.specs.declared.store.Store.TheVariants.{Listing, FreeingList, Polling, Unmasking, Watching, Drawing, Identifying, UnmaskingWait, TellingTime}
 use Rattle.tee_base.specs.declared.codes.TheConstants.Code.{GENERIC, CANCEL, ITEM_NOT_FOUND, SHORT_BUFFER}
 use Rattle.app_kit.specs.Reactions.{ask_for, return_with, succeed_with, fail_with, at_p0, at_p1, at_p2, at_p3}
-use Rattle.sample_apps.specs.StoreCommands.{polls, watches}
+use Rattle.sample_apps.specs.StoreCommands.{polls, waits, watches}
 use Rattle.tee_base.specs.Words.{Identifier}
 
 -- the command ends
@@ -45,7 +45,7 @@ unfoldable pub object_created : Answer → Reaction Store
 object_created (Number n) = end_command (at_p3 (Value n 0))
 object_created answer = end_with_refusal answer
 
--- 3, 4, 5, 8, 9 and 10: it is done
+-- 3, 4, 5, 8, 9, 10, 17 and 18: it is done
 unfoldable pub object_changed : Answer → Reaction Store
 object_changed Done = end_command no_outs
 object_changed answer = end_with_refusal answer
@@ -129,6 +129,16 @@ unfoldable pub client_identified : Answer → Reaction Store
 client_identified (Identity login id) = identity_told login id
 client_identified answer = end_with_refusal answer
 
+-- 17: whatever the mask was
+unfoldable pub wait_unmasked : ℕ → Answer → Reaction Store
+wait_unmasked ticks (Truth mask) = waits ticks
+wait_unmasked ticks answer = end_with_refusal answer
+
+-- 19: seconds and milliseconds
+unfoldable pub time_told : Answer → Reaction Store
+time_told (Time seconds millis) = end_command (at_p0 (Value seconds millis))
+time_told answer = end_with_refusal answer
+
 -- an answer comes to the command that waits; where none waits, none can come
 unfoldable pub after_answer : Store → Answer → Reaction Store
 after_answer Idle answer = end_with_code GENERIC
@@ -146,3 +156,5 @@ after_answer (Unmasking n) answer = flag_unmasked n answer
 after_answer (Watching left) answer = flag_watched left answer
 after_answer Drawing answer = random_drawn answer
 after_answer Identifying answer = client_identified answer
+after_answer (UnmaskingWait ticks) answer = wait_unmasked ticks answer
+after_answer TellingTime answer = time_told answer

@@ -10,7 +10,8 @@ use Rattle.app_api.specs.declared.param.Params.{Params}
 use Rattle.app_api.specs.Outs.{no_outs}
 use Rattle.app_kit.specs.declared.reaction.Reaction.{Reaction}
 use Rattle.sample_apps.specs.declared.store.Store.{Store}
-use Rattle.sample_apps.specs.declared.store.Store.TheVariants.{Idle, Opening, Creating, Acting, Describing, Reading, MakingList, Polling, Unmasking, Watching, Drawing, Identifying}
+use Rattle.sample_apps.specs.declared.store.Store.TheVariants.{Idle, Opening, Creating, Acting, Describing, Reading, MakingList, Polling, Unmasking, Watching, Drawing}
+use Rattle.sample_apps.specs.declared.store.Store.TheVariants.{Identifying, UnmaskingWait, TellingTime}
 use Rattle.tee_base.specs.declared.codes.TheConstants.Code.{BAD_PARAMETERS}
 use Rattle.app_kit.specs.Reactions.{ask_for, succeed_with, fail_with}
 
@@ -110,6 +111,25 @@ unfoldable pub identify_client : Param → Param → Param → Param → Reactio
 identify_client (MemOut room) Nothing Nothing Nothing = ask_for Identifying asked.ClientIdentity
 identify_client p0 p1 p2 p3 = misfit
 
+-- so many ticks pass before the command ends
+abbrev pub waits : ℕ → Reaction Store
+waits ticks = ask_for Acting (asked.Wait ticks)
+
+-- 17: waits for so many ticks, after cancellation is unmasked where that is wanted
+unfoldable pub wait_ticks : Param → Param → Param → Param → Reaction Store
+wait_ticks (ValueIn ticks unmask) Nothing Nothing Nothing = if unmask == 1 then ask_for (UnmaskingWait ticks) asked.CancelUnmask else waits ticks
+wait_ticks p0 p1 p2 p3 = misfit
+
+-- 18: sets the application's own time
+unfoldable pub set_time : Param → Param → Param → Param → Reaction Store
+set_time (ValueIn seconds millis) Nothing Nothing Nothing = ask_for Acting (asked.SetAppTime seconds millis)
+set_time p0 p1 p2 p3 = misfit
+
+-- 19: the application's own time
+unfoldable pub tell_time : Param → Param → Param → Param → Reaction Store
+tell_time ValueOut Nothing Nothing Nothing = ask_for TellingTime asked.AppTime
+tell_time p0 p1 p2 p3 = misfit
+
 -- what the command of this number asks for first, by its four parameters
 abbrev pub command_at : ℕ → Param → Param → Param → Param → Reaction Store
 command_at n p0 p1 p2 p3 =
@@ -129,6 +149,9 @@ command_at n p0 p1 p2 p3 =
     else if n == 14 then watch_flag p0 p1 p2 p3
     else if n == 15 then draw_random p0 p1 p2 p3
     else if n == 16 then identify_client p0 p1 p2 p3
+    else if n == 17 then wait_ticks p0 p1 p2 p3
+    else if n == 18 then set_time p0 p1 p2 p3
+    else if n == 19 then tell_time p0 p1 p2 p3
     else misfit
 
 -- a command begins

@@ -18,7 +18,7 @@ pub enum Store {
     Opening,
     /// 2: for the handle.
     Creating,
-    /// 3, 4, 5, 8, 9 and 10: for it to be done.
+    /// 3, 4, 5, 8, 9, 10, 17 and 18: for it to be done.
     Acting,
     /// 6: for what is known of the object.
     Describing,
@@ -42,6 +42,10 @@ pub enum Store {
     Drawing,
     /// 16: for who the client is.
     Identifying,
+    /// 17: for the mask to go, before so many ticks are waited for.
+    UnmaskingWait { ticks: u32 },
+    /// 19: for the application's own time.
+    TellingTime,
 }
 
 impl Store {
@@ -97,6 +101,8 @@ impl Store {
             Store::Watching { left } => answers::flag_watched(*left, answer),
             Store::Drawing => answers::random_drawn(answer),
             Store::Identifying => answers::client_identified(alloc, answer)?,
+            Store::UnmaskingWait { ticks } => answers::wait_unmasked(*ticks, answer),
+            Store::TellingTime => answers::time_told(answer),
         };
         Ok(reaction)
     }
@@ -139,6 +145,8 @@ impl Application for Store {
             Store::Watching { left } => Store::Watching { left: *left },
             Store::Drawing => Store::Drawing,
             Store::Identifying => Store::Identifying,
+            Store::UnmaskingWait { ticks } => Store::UnmaskingWait { ticks: *ticks },
+            Store::TellingTime => Store::TellingTime,
         };
         Ok(store)
     }

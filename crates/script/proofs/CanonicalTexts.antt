@@ -172,6 +172,21 @@ line_printed hosts client words (lines.Power pick) fill fit h = (
   },
   refl,
 )
+line_printed hosts client words (lines.Tick ticks) fill fit h =
+    let k : ticks < 2 ^ 64 = omega (arith, h.3) in (
+      record {
+        word = codes "board";
+        words = codes "tick" ∷ decimal ticks ∷ [];
+        whole = refl;
+        ink = literal 98 (codes "oard") refl;
+        each =
+            (literal 116 (codes "ick") refl, (decimal_ink ticks k, tt));
+        says = (decimal ticks, decimal_number ticks k, h.2, h.3, refl, refl);
+        loud =
+            loud_board (behind_spaces (codes "tick" ∷ decimal ticks ∷ []));
+      },
+      refl,
+    )
 
 -- ---- scripts
 
@@ -189,6 +204,11 @@ power_of : {A : Type 0} (hosts : List (Host A)) (client before : ℕ) (words : L
 unfolding IsLine
 power_of hosts client before words pick fill h = h
 
+tick_of : {A : Type 0} (hosts : List (Host A)) (client before : ℕ) (words : List (List ℕ)) (ticks fill : ℕ) → IsLine hosts client words (lines.Tick ticks) fill
+    → IsLine hosts before words (lines.Tick ticks) fill
+unfolding IsLine
+tick_of hosts client before words ticks fill h = h
+
 pub can_stand : {A : Type 0} (hosts : List (Host A)) (client : ℕ) (words : List (List ℕ)) (line : Line) (fill : ℕ) → HostsFit hosts → client < MAX_CLIENTS
     → IsLine hosts client words line fill → CanStand hosts line
 can_stand hosts client words (lines.Call app owner post call) fill fit below h before known =
@@ -205,6 +225,11 @@ can_stand hosts client words (lines.Fuse count) fill fit below h before known = 
 can_stand hosts client words (lines.Power pick) fill fit below h before known = (
   (line_printed hosts before words (lines.Power pick) fill fit
       (power_of hosts client before words pick fill h)).0,
+  known,
+)
+can_stand hosts client words (lines.Tick ticks) fill fit below h before known = (
+  (line_printed hosts before words (lines.Tick ticks) fill fit
+      (tick_of hosts client before words ticks fill h)).0,
   known,
 )
 

@@ -5,7 +5,7 @@ use Rattle.std.specs.List.{AllByRecursion}
 use Rattle.std.specs.Str.{IsAscii, bytes_eq}
 use Rattle.std.proofs.lemmas.Bool.{eqb-true, false_from_ne_true}
 use Rattle.std.proofs.lemmas.Option.{none-some, same_Some}
-use Rattle.tee_base.specs.declared.limits.TheConstants.{MAX_CLIENTS, MAX_FUSE_CALLS, MAX_INSTANCES, MAX_LINE_TURNS}
+use Rattle.tee_base.specs.declared.limits.TheConstants.{MAX_CLIENTS, MAX_FUSE_CALLS, MAX_INSTANCES, MAX_LINE_TICKS, MAX_LINE_TURNS}
 use Rattle.app_api.specs.declared.call.Call.{Call}
 use Rattle.app_api.specs.declared.call.Call.TheVariants as calls
 use Rattle.app_api.specs.declared.host.Host.{Host}
@@ -247,7 +247,13 @@ board_line_reads hosts client word (verb ∷ a ∷ []) read w e =
             let x = number_reads a n.0 n.1 in
             subst (λ (r : ReadMeaning). WordsMean hosts client (word ∷ verb ∷ a ∷ []) r.meaning r.fills) (same_Some (plain_line (lines.Power n.0)) read n.2)
             (a, x.0, x.1, ap (λ (v : List ℕ). v ∷ verb ∷ a ∷ []) w ∙ ap (λ (v : List ℕ). codes "board" ∷ v ∷ a ∷ []) (is_word verb (codes "power") h.0), refl)
-        | inr none ↦ absurd (none-some read none.1)
+        | inr p ↦ elim (chosen (bytes_eq verb (codes "tick")) _ _ _ p.1) [
+          | inl h ↦ let n = some_bind (within 1 MAX_LINE_TICKS (number_of a)) _ read h.1 in
+              let x = within_reads 1 MAX_LINE_TICKS a n.0 n.1 in
+              subst (λ (r : ReadMeaning). WordsMean hosts client (word ∷ verb ∷ a ∷ []) r.meaning r.fills) (same_Some (plain_line (lines.Tick n.0)) read n.2)
+              (a, x.0, x.1, x.2, ap (λ (v : List ℕ). v ∷ verb ∷ a ∷ []) w ∙ ap (λ (v : List ℕ). codes "board" ∷ v ∷ a ∷ []) (is_word verb (codes "tick") h.0), refl)
+          | inr none ↦ absurd (none-some read none.1)
+        ]
       ]
     ]
 board_line_reads hosts client word (verb ∷ a ∷ b ∷ words) read w e = absurd (none-some read e)
@@ -350,6 +356,11 @@ power_again : {A : Type 0} (hosts : List (Host A)) (client pick : ℕ) (a : List
 unfolding meaning_of_words board_line
 power_again hosts client pick a x small = rw (number_again a pick x small) refl
 
+tick_again : {A : Type 0} (hosts : List (Host A)) (client ticks : ℕ) (a : List ℕ) → IsNumber a ticks → 1 ≤ ticks → ticks ≤ MAX_LINE_TICKS
+    → meaning_of_words hosts client (codes "board" ∷ codes "tick" ∷ a ∷ []) ≡ Some (plain_line (lines.Tick ticks))
+unfolding meaning_of_words board_line
+tick_again hosts client ticks a x least most = rw (within_again 1 MAX_LINE_TICKS a ticks (omega arith) x least most) refl
+
 client_again : {A : Type 0} (hosts : List (Host A)) (client n : ℕ) (a : List ℕ) → IsNumber a n → n < MAX_CLIENTS
     → meaning_of_words hosts client (codes "client" ∷ a ∷ []) ≡ Some (record { meaning = Client n; fills = 0 })
 unfolding meaning_of_words client_line
@@ -384,6 +395,8 @@ line_again hosts client line words (lines.Fuse count) fill fit ascii are h = ap 
     ∙ with_fill (Script (lines.Fuse count)) fill h.4
 line_again hosts client line words (lines.Power pick) fill fit ascii are h = ap (meaning_of_words hosts client) h.3 ∙ power_again hosts client pick h.0 h.1 h.2
     ∙ with_fill (Script (lines.Power pick)) fill h.4
+line_again hosts client line words (lines.Tick ticks) fill fit ascii are h = ap (meaning_of_words hosts client) h.4 ∙ tick_again hosts client ticks h.0 h.1 h.2 h.3
+    ∙ with_fill (Script (lines.Tick ticks)) fill h.5
 
 of_words : {A : Type 0} (hosts : List (Host A)) (client : ℕ) (line : List ℕ) (words : List (List ℕ)) (o : Option ReadMeaning) → all_ascii line ≡ true → ¬ IsSilent line
     → AreWords line words → meaning_of_words hosts client words ≡ o → meaning_of hosts client line ≡ o

@@ -83,6 +83,7 @@ line_text hosts (lines.Turns app client instance count) = name_at hosts app ++ b
 line_text hosts (lines.Cancel app client op) = name_at hosts app ++ behind_spaces (codes "cancel" ∷ decimal op ∷ [])
 line_text hosts (lines.Fuse count) = codes "board" ++ behind_spaces (codes "fuse" ∷ decimal count ∷ [])
 line_text hosts (lines.Power pick) = codes "board" ++ behind_spaces (codes "power" ∷ decimal pick ∷ [])
+line_text hosts (lines.Tick ticks) = codes "board" ++ behind_spaces (codes "tick" ∷ decimal ticks ∷ [])
 
 -- whose line it is; one about the board is that of the client before
 abbrev pub client_of : ℕ → Line → ℕ
@@ -91,6 +92,7 @@ client_of before (lines.Turns app client instance count) = client
 client_of before (lines.Cancel app client op) = client
 client_of before (lines.Fuse calls) = before
 client_of before (lines.Power pick) = before
+client_of before (lines.Tick ticks) = before
 
 -- a client line stands only where the client changes
 abbrev pub client_text : ℕ → ℕ → List ℕ

@@ -14,6 +14,7 @@ is_board (lines.Turns app client instance count) = false
 is_board (lines.Cancel app client op) = false
 is_board (lines.Fuse calls) = true
 is_board (lines.Power pick) = true
+is_board (lines.Tick ticks) = true
 
 -- whether a caller of this dialect takes the line
 abbrev pub takes : Dialect → Line → Bool

@@ -5,7 +5,7 @@ use Rattle.std.specs.Str.{IsAscii}
 use Rattle.std.specs.Str.Lines.{strip_carriage_return}
 use Rattle.hex.specs.Hex.{decode_of}
 use Rattle.uuid.specs.Text.{parsed}
-use Rattle.tee_base.specs.declared.limits.TheConstants.{MAX_CLIENTS, MAX_FILL_BYTES, MAX_FUSE_CALLS, MAX_INSTANCES, MAX_LINE_TURNS}
+use Rattle.tee_base.specs.declared.limits.TheConstants.{MAX_CLIENTS, MAX_FILL_BYTES, MAX_FUSE_CALLS, MAX_INSTANCES, MAX_LINE_TICKS, MAX_LINE_TURNS}
 use Rattle.app_api.specs.declared.call.Call.{Call}
 use Rattle.app_api.specs.declared.call.Call.TheVariants as calls
 use Rattle.app_api.specs.declared.host.Host.{Host}
@@ -91,6 +91,9 @@ IsLine hosts client words (lines.Fuse count) fill =
     (number : List ℕ) × IsNumber number count × (count ≤ MAX_FUSE_CALLS) × (words ≡ codes "board" ∷ codes "fuse" ∷ number ∷ []) × (fill ≡ 0)
 IsLine hosts client words (lines.Power pick) fill =
     (number : List ℕ) × IsNumber number pick × (pick < 2 ^ 64) × (words ≡ codes "board" ∷ codes "power" ∷ number ∷ []) × (fill ≡ 0)
+IsLine hosts client words (lines.Tick ticks) fill =
+    (number : List ℕ) × IsNumber number ticks × (1 ≤ ticks) × (ticks ≤ MAX_LINE_TICKS)
+    × (words ≡ codes "board" ∷ codes "tick" ∷ number ∷ []) × (fill ≡ 0)
 
 -- a line that means nothing: an empty one, and one that begins with #
 abbrev pub IsSilent : Text → Type 0

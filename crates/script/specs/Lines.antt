@@ -3,7 +3,7 @@ use Rattle.std.specs.Prelude.{ℕ, ◌==◌, ◌+◌, ◌-◌, Bool, true, false
 use Rattle.std.specs.List.{filter, list_all, slice_split}
 use Rattle.std.specs.Str.{bytes_eq}
 use Rattle.uuid.specs.Text.{parsed}
-use Rattle.tee_base.specs.declared.limits.TheConstants.{MAX_CLIENTS, MAX_FUSE_CALLS, MAX_INSTANCES, MAX_LINE_TURNS}
+use Rattle.tee_base.specs.declared.limits.TheConstants.{MAX_CLIENTS, MAX_FUSE_CALLS, MAX_INSTANCES, MAX_LINE_TICKS, MAX_LINE_TURNS}
 use Rattle.app_api.specs.declared.call.Call.{Call}
 use Rattle.app_api.specs.declared.call.Call.TheVariants as calls
 use Rattle.app_api.specs.declared.host.Host.{Host}
@@ -183,11 +183,12 @@ app_line client app (verb ∷ words) =
     else if bytes_eq verb (codes "post") then call_line client app true words
     else (memory_call_of verb words >>= λ said. memory_or_call_line client app said (verb ∷ words))
 
--- a line about the board: its fuse, or its power
+-- a line about the board: its fuse, its power, or ticks that pass
 unfoldable pub board_line : List (List ℕ) → Option ReadMeaning
 board_line (verb ∷ number ∷ []) =
     if bytes_eq verb (codes "fuse") then (within 0 MAX_FUSE_CALLS (number_of number) >>= λ count. Some (plain_line (lines.Fuse count)))
     else if bytes_eq verb (codes "power") then (number_of number >>= λ pick. Some (plain_line (lines.Power pick)))
+    else if bytes_eq verb (codes "tick") then (within 1 MAX_LINE_TICKS (number_of number) >>= λ ticks. Some (plain_line (lines.Tick ticks)))
     else None
 board_line words = None
 

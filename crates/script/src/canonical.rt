@@ -263,6 +263,7 @@ impl Text {
             }
             Line::Fuse(count) => self.order(b"board", b"fuse", u64::from(*count)),
             Line::Power(pick) => self.order(b"board", b"power", *pick),
+            Line::Tick(ticks) => self.order(b"board", b"tick", u64::from(*ticks)),
         }
     }
 
@@ -287,7 +288,7 @@ fn client_of(before: u8, line: &Line) -> u8
         Line::Call { client, .. } | Line::Turns { client, .. } | Line::Cancel { client, .. } => {
             *client
         }
-        Line::Fuse(_) | Line::Power(_) => before,
+        Line::Fuse(_) | Line::Power(_) | Line::Tick(_) => before,
     }
 }
 

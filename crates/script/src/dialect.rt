@@ -20,6 +20,6 @@ pub fn takes(dialect: Dialect, line: &Line) -> bool
 {
     match dialect {
         Dialect::Whole => true,
-        Dialect::WithoutBoard => !matches!(line, Line::Fuse(_) | Line::Power(_)),
+        Dialect::WithoutBoard => !matches!(line, Line::Fuse(_) | Line::Power(_) | Line::Tick(_)),
     }
 }

@@ -186,7 +186,9 @@ fn turns(app: u8, instance: u8) -> Line
 ///
 /// NoMemory where there is no memory for them.
 pub fn workload(alloc: Global, number: u64, hosts: u8) -> Result<Script, NoMemory>
+    // there is a host
     requires some { 0 < hosts }
+    // it is just that workload
     ensures { IfOk result (λ script. script ≡ workload_of number hosts) }
 {
     let mut lines = Vec::with_capacity(alloc, LINES)?;

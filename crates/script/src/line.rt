@@ -5,7 +5,7 @@ use app_api::Call;
 /// A line of a script.
 #[derive(Debug, Drop)]
 pub enum Line {
-    /// A client's call. Without `post` its instance gets turns until it is answered.
+    /// A client's call. Without `post` its instance gets turns until it is answered, or the instance waits.
     Call {
         app: u8,
         client: u8,
@@ -29,6 +29,8 @@ pub enum Line {
     Fuse(u32),
     /// The board loses power and comes back. The number picks what it keeps.
     Power(u64),
+    /// So many ticks pass.
+    Tick(u32),
 }
 
 /// What a line of the text means.

@@ -368,6 +368,10 @@ fn line_of_board(words: &[&[u8]]) -> Result<ReadMeaning, LineError>
         };
         return Ok(plain(Line::Power(pick)));
     }
+    if *verb == b"tick".as_slice() {
+        let ticks = number_within(digits, 1, u64::from(limits::MAX_LINE_TICKS))?;
+        return Ok(plain(Line::Tick(ticks as u32)));
+    }
     Err(LineError::Bad)
 }
 

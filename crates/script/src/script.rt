@@ -68,7 +68,9 @@ impl Script {
         Script { lines }
     }
 
+    /// The lines as a slice.
     pub fn as_slice(&self) -> &[Line]
+        // they are the script's, in order
         ensures { result.now ≡ self.now }
     {
         self.lines.as_slice()

@@ -9,7 +9,7 @@ use Rattle.store_api.specs.Volumes.{VolumeKeeper}
 use Rattle.alone.specs.declared.reply.Reply.{Reply}
 use Rattle.alone.specs.Logs.{IsLegal, KeptLog, Logged, entries_by, is_full, replies_in}
 use Rattle.alone.specs.Machine.{Machine}
-use Rattle.alone.specs.Step.{Event, Called, Cancelled, Turned, TurnLost, Corrupted, Lost, Starved, Restarted, needs_store}
+use Rattle.alone.specs.Step.{Event, Called, Cancelled, Turned, TurnLost, Corrupted, Lost, Starved, Restarted, Ticked, needs_store}
 use Rattle.app_side.specs.Represents.{is_lost, machine_of, over}
 use Rattle.app_side.specs.declared.side.AppSide.{AppSide}
 use Rattle.shared_parts.specs.InStep.{IsKeptBy, StoragePart}
@@ -84,6 +84,7 @@ is_loss_event (Corrupted instance) = false
 is_loss_event Lost = true
 is_loss_event (Starved instance) = false
 is_loss_event (Restarted took) = false
+is_loss_event (Ticked ticks) = false
 
 -- the log tells of a loss
 abbrev pub tells_loss : List Logged → Bool

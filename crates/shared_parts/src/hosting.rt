@@ -7,6 +7,7 @@ ghost use Rattle.turn_cell.specs.View.{with_miss};
 ghost use Rattle.turn_cell.specs.Words.{IsSeatOf, cell_id, cell_id_of, name_of, view as known};
 ghost use Rattle.alone.specs.Logs.{Adds, bytes_of_call, is_full, machine_by};
 ghost use Rattle.alone.specs.Step.{Called, Cancelled};
+ghost use Rattle.alone.specs.Waiting.{is_waiting};
 ghost use Rattle.app_side.specs.Represents.{event_of, has_doubt, is_lost, machine_of, turns_of};
 ghost use Rattle.shared_parts.specs.HostedApps.{IsNewSeat, IsSeatFor, IsTurnRefusal, KeepsHosted, TurnsInStorage, WantsStorage, missed_by, missed_more, none_missed, origin_of, reply_in, tells_loss};
 ghost use Rattle.shared_parts.specs.InStep.{HasPart, IsPosted, IsRefusal, IsReserved, part_of};
@@ -93,8 +94,10 @@ impl<V: Volume, A: Application> HostedApp<V, A> {
         requires works { is_lost side ≡ false }
         ensures origin { IfOk result (λ made.
             made.origin ≡ origin_of (cell_id_of seat) (known seat) side) }
+        // its log has no entry
         ensures log { IfOk result (λ made. made.log ≡ []) }
         ensures misses { IfOk result (λ made. made.misses ≡ replicate 8 none_missed) }
+        // where there is no memory, the seat comes back
         ensures err { IfErr result (λ back. back ≡ seat) }
     {
         let start = Snapshot::of(&side);
@@ -127,15 +130,20 @@ impl<V: Volume, A: Application> HostedApp<V, A> {
     ///
     /// `LogFull` where the log has no place for an entry or for the bytes that the call brings; `NoMemory`. `Busy` never.
     pub fn call(&mut self, client: u8, call: Call, copy: Call) -> Result<Posted, SharedAnswer>
+        // the copy is one of the call
         requires same { copy ≡ call }
+        // the client is one of those that there are
         requires client { client < 8 }
+        // where its history began is as before
         ensures origin { self.new.origin ≡ self.old.origin }
+        // what each client missed is as before
         ensures misses { self.new.misses ≡ self.old.misses }
         ensures ok { OnOk result (Adds client (Called client call) self.old.log self.new.log) }
         ensures room { OnOk result (is_full self.old.log (bytes_of_call call) ≡ false) }
         ensures posted { IfOk result (λ posted. IsMarked V.keeper self.old.origin.opened
             → IsPosted (machine_by A.behaviour self.old.origin.machine self.old.log)
             client call posted) }
+        // a refused call makes no entry
         ensures err { OnErr result (self.new.log ≡ self.old.log) }
         ensures why { IfErr result (λ why. IsRefusal why self.old.log (bytes_of_call call)) }
     {
@@ -148,15 +156,29 @@ impl<V: Volume, A: Application> HostedApp<V, A> {
     ///
     /// `LogFull` where the log has no place for an entry; `NoMemory`. `Busy` never.
     pub fn cancel(&mut self, client: u8, op: u64) -> Result<(), SharedAnswer>
+        // the client is one of those that there are
         requires { client < 8 }
+        // where its history began is as before
         ensures origin { self.new.origin ≡ self.old.origin }
+        // what each client missed is as before
         ensures misses { self.new.misses ≡ self.old.misses }
         ensures ok { OnOk result (Adds client (Cancelled op) self.old.log self.new.log) }
         ensures room { OnOk result (is_full self.old.log 0 ≡ false) }
+        // a refused cancellation makes no entry
         ensures err { OnErr result (self.new.log ≡ self.old.log) }
         ensures why { IfErr result (λ why. IsRefusal why self.old.log 0) }
     {
         self.recorded.cancel(client, op)
+    }
+
+    /// Whether the instance waits.
+    pub fn waits(&self, instance: u8) -> bool
+        // where the mark is set, it is so in the machine that the log leads to
+        ensures { IsMarked V.keeper self.now.origin.opened
+            → result ≡ is_waiting
+            (machine_by A.behaviour self.now.origin.machine self.now.log) instance }
+    {
+        self.recorded.waits(instance)
     }
 
     /// A client's turn of an instance, with its entry, and before it that of a loss that is found now. The storage is taken
@@ -173,13 +195,17 @@ impl<V: Volume, A: Application> HostedApp<V, A> {
         instance: u8,
     ) -> Result<TurnKind, SharedAnswer>
         requires own { cell_id storage.now ≡ self.old.origin.storage }
+        // the client is one of those that there are
         requires client { client < 8 }
         requires few { (missed_by self.old.misses client).count < 2 ^ 60 }
+        // where its history began is as before
         ensures origin { self.new.origin ≡ self.old.origin }
         ensures ok { IfOk result (λ kind.
             MakesTurn client (event_of kind instance) self.old.log self.new.log) }
         ensures room { OnOk result (is_full self.old.log 0 ≡ false) }
+        // a turn that was made is no missed one
         ensures same { OnOk result (self.new.misses ≡ self.old.misses) }
+        // a refused turn makes no entry
         ensures err { OnErr result (self.new.log ≡ self.old.log) }
         ensures why { IfErr result (λ why. IsTurnRefusal why (name_of storage.now) client
             self.old.log self.old.misses self.new.misses) }
@@ -218,6 +244,7 @@ impl<V: Volume, A: Application> HostedApp<V, A> {
 
     /// The log, and the seat of the storage's cell.
     pub fn into_parts(self) -> (AppLog, CellSeat<Storage<V, A>>)
+        // its log is given out as it is
         ensures log { result.0.entries ≡ self.log }
         ensures cell { cell_id_of result.1 ≡ self.origin.storage }
         ensures seat { IsSeatFor self.origin.machine.index (known result.1) }

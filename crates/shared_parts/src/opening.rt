@@ -34,15 +34,20 @@ impl<V: Volume, A: Application> Storage<V, A> {
     ///
     /// There is no memory. The volume comes back.
     pub fn new(alloc: Global, volume: V, sides: &[AppSide<A>]) -> Result<Storage<V, A>, Unstored<V>>
+        // there is an application
         requires some { 0 < length sides.now }
+        // there is a region for each of them
         requires few { length sides.now ≤ MAX_HOSTS }
+        // the volume is not lost
         requires works { (V.keeper.condition volume).lost ≡ false }
         requires calm { IsNoneInDoubt sides.now }
+        // it holds this volume
         ensures volume { IfOk result (λ made. made.volume ≡ volume) }
         ensures parts { IfOk result (λ made.
             AreOpened V.keeper (length sides.now) volume made.parts) }
         ensures trail { IfOk result (λ made.
             made.trail ≡ Opened (length sides.now) volume ∷ []) }
+        // where there is no memory, the volume comes back
         ensures err { IfErr result (λ refused. refused.volume ≡ volume) }
     {
         match views_of(alloc, &volume, sides.len()) {

@@ -6,6 +6,7 @@ ghost use Rattle.alone.specs.KeptLogs.{event_by};
 ghost use Rattle.alone.specs.Logs.{Adds, bytes_in, bytes_of_call, entry, is_full};
 ghost use Rattle.alone.specs.Machine.{Machine};
 ghost use Rattle.alone.specs.Step.{Called, Cancelled, Lost, needs_store};
+ghost use Rattle.alone.specs.Waiting.{is_waiting};
 ghost use Rattle.app_side.specs.Represents.{Represents, event_of, is_lost, turns_of};
 ghost use Rattle.app_side.specs.Storeless.{IsStoreless, wants_store};
 ghost use Rattle.shared_parts.specs.InStep.{GoesInStep, HasGrown, HasPart, IsKeptBy, IsPosted, IsRefusal, IsReserved, KnowsLoss, StaysInStep, StoragePart, part_of};
@@ -35,7 +36,9 @@ pub(crate) fn turn_event(kind: TurnKind, instance: u8) -> LogEvent
 impl<A: Application> Recorded<A> {
     /// The application with a log that has no entry yet, and places for all that lives.
     pub fn new(alloc: Global, side: AppSide<A>) -> Result<Recorded<A>, NoMemory>
+        // it is this application
         ensures side { IfOk result (λ made. made.side ≡ side) }
+        // its log has no entry
         ensures log { IfOk result (λ made. made.log.entries ≡ []) }
         ensures reserved { IfOk result (λ made. IsReserved 4 made.side made.log) }
         ensures kept { IfOk result (λ made. (m : Machine A) → Represents side m
@@ -69,7 +72,9 @@ impl<A: Application> Recorded<A> {
     ///
     /// `LogFull` where the log has no place for an entry or for the bytes that the call brings; `NoMemory`.
     pub fn call(&mut self, client: u8, call: Call, copy: Call) -> Result<Posted, SharedAnswer>
+        // the copy is one of the call
         requires same { copy ≡ call }
+        // the client is one of those that there are
         requires client { client < MAX_CLIENTS }
         ensures step { GoesInStep A.behaviour self.old.side self.old.log
             self.new.side self.new.log }
@@ -131,6 +136,7 @@ impl<A: Application> Recorded<A> {
         ensures room { OnOk result (is_full self.old.log.entries 0 ≡ false) }
         ensures err { IfErr result (λ why. HasGrown self.old.log self.new.log
             × IsRefusal why self.old.log.entries 0) }
+        // a refused cancellation changes nothing of the application
         ensures same { OnErr result (self.new.side ≡ self.old.side) }
     {
         if self.log.is_full(0) {
@@ -164,6 +170,7 @@ impl<A: Application> Recorded<A> {
     ///
     /// `LogFull` where the log has no place for an entry; `NoMemory`.
     pub fn begin_turn(&mut self) -> Result<(), SharedAnswer>
+        // the application is as before
         ensures side { self.new.side ≡ self.old.side }
         ensures log { HasGrown self.old.log self.new.log }
         ensures few { OnOk result (turns_of self.new.side < MAX_NUMBER) }
@@ -190,6 +197,14 @@ impl<A: Application> Recorded<A> {
         ensures own { result ≡ wants_store self.now.side instance }
     {
         self.side.needs_store(instance)
+    }
+
+    /// Whether the instance waits.
+    pub fn waits(&self, instance: u8) -> bool
+        // it is so in the machine that the application stands for
+        ensures { (m : Machine A) → Represents self.now.side m → result ≡ is_waiting m instance }
+    {
+        self.side.waits(instance)
     }
 
     /// A client's turn of an instance in which no ask waits that may need the store, with its entry.

@@ -86,6 +86,7 @@ impl<V: Volume, A: Application> Storage<V, A> {
         client: u8,
         instance: u8,
     ) -> TurnKind
+        // the application is one of those of the storage
         requires there { app < length self.old.parts }
         requires few { turns_of recorded.old.side < MAX_NUMBER }
         requires loss { is_lost recorded.old.side ≡ true → is_lost_at self.old.trail ≡ true }

@@ -35,6 +35,9 @@ use Rattle.instances.specs.contracts.session.SessionState as SessionState
 use Rattle.instances.specs.contracts.session.Slot as Slot
 use Rattle.instances.specs.contracts.session.Session as Session
 use Rattle.instances.specs.contracts.instances.Instances as Instances
+use Rattle.ticks_time.specs.contracts.time.Time as Time
+use Rattle.ticks_time.specs.contracts.clock.OwnTime as OwnTime
+use Rattle.ticks_time.specs.contracts.clock.Clock as Clock
 use Rattle.shared_mem.specs.contracts.block.Block as Block
 use Rattle.shared_mem.specs.contracts.blocks.Blocks as Blocks
 use Rattle.op_queue.specs.contracts.operation.Progress as Progress
@@ -356,6 +359,15 @@ OpQueue-field = search (Operation-send, Vec-send, sendable) depth 60 fits 20000
 OpQueue-send : IsSend OpQueue.the_row
 OpQueue-send = search (OpQueue-field, sendable) depth 60
 
+Time-field : IsSend Time.the_field.row
+Time-field = search sendable depth 60 fits 20000
+
+OwnTime-field : IsSend OwnTime.the_field.row
+OwnTime-field = search (Time-field, sendable) depth 60 fits 20000
+
+Clock-field : IsSend Clock.the_field.row
+Clock-field = search (OwnTime-field, sendable) depth 60 fits 20000
+
 Block-field : IsSend Block.the_field.row
 Block-field = search (Direction-field, Bytes-field, sendable) depth 60 fits 20000
 
@@ -560,7 +572,7 @@ Instance-send : (A : RattleType) → IsSend A → IsSend (Instance.the_row A)
 Instance-send A a = let f = Instance-field A a in search sendable depth 60
 
 AppSide-field : (A : RattleType) → IsSend A → IsSend (AppSide.the_field A).row
-AppSide-field A a = search (Instances-field, Instance-send, OpQueue-field, Blocks-field, Held-field, Operations-field, Vec-send, sendable) depth 60 fits 20000
+AppSide-field A a = search (Clock-field, Instances-field, Instance-send, OpQueue-field, Blocks-field, Held-field, Operations-field, Vec-send, sendable) depth 60 fits 20000
 
 AppSide-send : (A : RattleType) → IsSend A → IsSend (AppSide.the_row A)
 AppSide-send A a = let f = AppSide-field A a in search sendable depth 60

@@ -20,6 +20,7 @@ use Rattle.alone.specs.declared.turn.TurnKind.{TurnKind}
 use Rattle.app_side.specs.Represents.{event_of}
 use Rattle.alone.specs.Logs.{Adds, IsLegal, Logged, bytes_of_call, entries_by, entry, is_full, machine_by}
 use Rattle.alone.specs.Step.{Event, Called, Lost, needs_store}
+use Rattle.alone.specs.Waiting.{is_waiting}
 use Rattle.shared_parts.proofs.PartLemmas.{found_here, gives_part, own_after, segment_is}
 use Rattle.shared_parts.specs.StorageTurns.{MakesTurn, MakesTurnOver}
 use Rattle.shared_parts.specs.HostedApps.{IsTurnRefusal, WantsStorage, missed_more}
@@ -31,6 +32,7 @@ use Rattle.shared_parts.specs.declared.recorded.Posted.{Posted}
 use Rattle.shared_parts.specs.declared.recorded.SharedAnswer.{SharedAnswer}
 use Rattle.shared_parts.specs.declared.recorded.SharedAnswer.TheVariants as answers
 use Rattle.shared_tee.specs.Passes.{FindsNothing, GoesOn, IsPass, IsPassOf, IsRefused, IsTurnRefused, Makes, MakesOneTurn, MakesNothing, MissesOwnCell, OthersWentOn, PassView, Places, Posts}
+use Rattle.shared_tee.specs.Passes.{TellsWait}
 use Rattle.shared_tee.specs.declared.names.TheConstants.{STORAGE_CELL}
 use Rattle.shared_tee.specs.Passes.{log_in, log_of, origin_in, own_of}
 
@@ -461,6 +463,23 @@ pub look_gives : {V A : Type 0} (K : VolumeKeeper V) (behaviour : Behaviour A) (
     → GivesBack K behaviour p h h (missed_by h.misses p.client)
 look_gives K behaviour p h takes keeps =
     call_gives K behaviour p h h takes refl refl keeps Lost (let none : Result (Unit {0}) (Unit {0}) = Err tt in none) tt refl
+
+-- what a look tells of a wait is so in the log that the pass then knows
+module _ {V A : Type 0} (K : VolumeKeeper V) (behaviour : Behaviour A) (p : PassView V A) (h : HostedView V A) (g : GivesBack K behaviour p h h (missed_by h.misses p.client))
+    (id : TableId) (same_cell : id ≡ p.cell) (u w : SeatView ClientPart (HostedEvent V A)) (turn : Turn ClientPart (HostedEvent V A)) (taken : u ≡ with_turn p.seat turn 0)
+    (is_given : w ≡ view_after_give u (parts_for h.log 0 h.misses) (trail_with h.origin h.log)) where
+  abbrev looked : PassView V A
+  looked = record { app = p.app; client = p.client; calls = p.calls + 1; cell = id; seat = w }
+
+  pub tells_wait : (waits : Bool) (instance : ℕ) → (IsMarked K h.origin.opened → waits ≡ is_waiting (machine_by behaviour h.origin.machine h.log) instance)
+      → TellsWait K behaviour waits instance looked
+  tells_wait waits instance told origin is marked =
+      let log : log_of looked ≡ h.log = log_then K behaviour p h h (missed_by h.misses p.client) g id same_cell u w turn taken is_given in
+      let first : origin_in w.trail ≡ Some h.origin = origin_then K behaviour p h h (missed_by h.misses p.client) g id same_cell u w turn taken is_given in
+      let same : h.origin ≡ origin = (let e : Some h.origin ≡ Some origin = sym first ∙ is in cc) in
+      let here : waits ≡ is_waiting (machine_by behaviour origin.machine h.log) instance =
+      told (subst (λ (o : Origin V A). IsMarked K o.opened) (sym same) marked) ∙ ap (λ (o : Origin V A). is_waiting (machine_by behaviour o.machine h.log) instance) same in
+      here ∙ ap (λ (ls : List Logged). is_waiting (machine_by behaviour origin.machine ls) instance) (sym log)
 
 pub finds_log : {E : Type 0} (r : Result (Option Reply) E) (op : ℕ) (log now : List Logged) → now ≡ log → IfOk r (λ found. found ≡ reply_in op log) → IfOk r (λ found. found ≡ reply_in op now)
 finds_log (Ok reply) op log now same is = is ∙ ap (λ (ls : List Logged). reply_in op ls) (sym same)

@@ -1,6 +1,6 @@
 -- What a pass knows, and what a call of the runtime leaves of it.
 use Rattle.app_api.specs.Behaviours.{Behaviour}
-use Rattle.std.specs.Prelude.{ℕ, ◌≡◌, ◌≢◌, ◌<◌, ◌≤◌, ◌+◌, ◌⊎◌, true, false, List, [], ◌∷◌, Option, None, Some, length, slice_get, slice_index_or}
+use Rattle.std.specs.Prelude.{ℕ, ◌≡◌, ◌≢◌, ◌<◌, ◌≤◌, ◌+◌, ◌⊎◌, Bool, true, false, List, [], ◌∷◌, Option, None, Some, length, slice_get, slice_index_or}
 use mathlib.Core.List.{IsPrefix}
 use Rattle.turn_cell.specs.View.{with_miss}
 use Rattle.turn_cell.specs.Words.{TableId}
@@ -10,6 +10,7 @@ use Rattle.store_api.specs.Volumes.{VolumeKeeper}
 use Rattle.app_api.specs.declared.call.Call.{Call}
 use Rattle.alone.specs.Logs.{Adds, IsLegal, Logged, bytes_of_call, entries_by, is_full, machine_by}
 use Rattle.alone.specs.Step.{Event, Called, needs_store}
+use Rattle.alone.specs.Waiting.{is_waiting}
 use Rattle.shared_parts.specs.HostedApps.{Begins, ClientPart, HostedEvent, Made, Origin, missed_more, no_client, trail_with}
 use Rattle.shared_parts.specs.InStep.{IsPosted}
 use Rattle.shared_parts.specs.StorageParts.{IsMarked}
@@ -150,6 +151,21 @@ module _ {V A : Type 0} where
   FindsNothing (answers.Busy busy) old new = (busy.cell ≡ old.app) × (busy.word ≢ 0) × MissesOwnCell busy.word old new
   FindsNothing answers.LogFull old new = ⊥
   FindsNothing answers.NoMemory old new = MakesNothing old new
+
+-- behaviour has the applications' two stated functions
+module _ {V A : Type 0} (K : VolumeKeeper V) (behaviour : Behaviour A) where
+  -- this was told of whether the instance waits: it is so in the machine that the log leads to
+  abbrev pub TellsWait : Bool → ℕ → PassView V A → Type 0
+  TellsWait waits instance p =
+      (origin : Origin V A) → origin_in p.seat.trail ≡ Some origin → IsMarked K origin.opened
+      → waits ≡ is_waiting (machine_by behaviour origin.machine (log_of p)) instance
+
+module _ {V A : Type 0} where
+  -- why a look for a wait finds none: its one try found the application's cell taken, and nothing else
+  abbrev pub FindsOwnCellTaken : SharedAnswer → PassView V A → PassView V A → Type 0
+  FindsOwnCellTaken (answers.Busy busy) old new = (busy.cell ≡ old.app) × (busy.word ≢ 0) × MissesOwnCell busy.word old new
+  FindsOwnCellTaken answers.LogFull old new = ⊥
+  FindsOwnCellTaken answers.NoMemory old new = ⊥
 
 module _ {V A : Type 0} where
   -- its turn found the storage's cell taken, by this word, which is counted in its part

@@ -71,6 +71,7 @@ impl<V: Volume, A: Application> SharedTeeOver<V, A> {
         params: &Params,
     ) -> Result<Posted, SharedAnswer>
         requires of { IsPassOf self.now pass.old }
+        // the pass has made less than 2^60 calls
         requires few { pass.old.calls < 2 ^ 60 }
         ensures of { IsPassOf self.now pass.new }
         ensures goes { GoesOn pass.old pass.new }
@@ -113,6 +114,7 @@ impl<V: Volume, A: Application> SharedTeeOver<V, A> {
         params: &Params,
     ) -> Result<Posted, SharedAnswer>
         requires of { IsPassOf self.now pass.old }
+        // the pass has made less than 2^60 calls
         requires few { pass.old.calls < 2 ^ 60 }
         ensures of { IsPassOf self.now pass.new }
         ensures goes { GoesOn pass.old pass.new }
@@ -148,6 +150,7 @@ impl<V: Volume, A: Application> SharedTeeOver<V, A> {
     /// As of `open_session`.
     pub fn close_session(&self, pass: &mut Pass<V, A>, label: u32) -> Result<Posted, SharedAnswer>
         requires of { IsPassOf self.now pass.old }
+        // the pass has made less than 2^60 calls
         requires few { pass.old.calls < 2 ^ 60 }
         ensures of { IsPassOf self.now pass.new }
         ensures goes { GoesOn pass.old pass.new }
@@ -166,6 +169,7 @@ impl<V: Volume, A: Application> SharedTeeOver<V, A> {
     pub fn memory(&self, pass: &mut Pass<V, A>, call: &Call) -> Result<Posted, SharedAnswer>
         requires memory { is_memory_call call.now ≡ true }
         requires of { IsPassOf self.now pass.old }
+        // the pass has made less than 2^60 calls
         requires few { pass.old.calls < 2 ^ 60 }
         ensures of { IsPassOf self.now pass.new }
         ensures goes { GoesOn pass.old pass.new }
@@ -191,6 +195,7 @@ impl<V: Volume, A: Application> SharedTeeOver<V, A> {
     /// As of `open_session`.
     pub fn request_cancellation(&self, pass: &mut Pass<V, A>, op: u64) -> Result<(), SharedAnswer>
         requires of { IsPassOf self.now pass.old }
+        // the pass has made less than 2^60 calls
         requires few { pass.old.calls < 2 ^ 60 }
         ensures of { IsPassOf self.now pass.new }
         ensures goes { GoesOn pass.old pass.new }

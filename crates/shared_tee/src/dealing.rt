@@ -54,10 +54,12 @@ impl<V: Volume, A: Application> Pass<V, A> {
     )
         requires own { IsSeatOf cell.now seat }
         requires fresh { (origin : Origin V A) × (known seat ≡ fresh_seat origin 0 8) }
+        // there is room for the passes of all clients
         requires room { vec_len passes.old + 8 ≤ vec_capacity passes.old }
         ensures passes { (origin : Origin V A) → known seat ≡ fresh_seat origin 0 8
             → passes.new.items ≡ passes.old.items
             ++ fresh_passes (cell_id cell.now) origin app 0 8 }
+        // no memory is taken
         ensures capacity { vec_capacity passes.new ≡ vec_capacity passes.old }
     {
         let mut seat = seat;

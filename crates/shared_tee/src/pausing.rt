@@ -15,10 +15,12 @@ impl<V: Volume, A: Application> SharedTeeOver<V, A> {
     /// as `Busy` names them. While it waits for the storage's, the pass holds the application's.
     pub fn pause<R: Wait>(&self, rt: &R, pass: &mut Pass<V, A>, cell: u32)
         requires of { IsPassOf self.now pass.old }
+        // the cell is the application's own, or the storage's
         requires cell { (cell ≡ pass.old.app) ⊎ (cell ≡ STORAGE_CELL) }
         ensures of { IsPassOf self.now pass.new }
         ensures goes { GoesOnBy 0 pass.old pass.new }
         ensures same { MakesNothing pass.old pass.new }
+        // the pass has waited for a cell once more
         ensures waited { pass.old.seat.waiting_tries < pass.new.seat.waiting_tries }
     {
         let own = &self.cells[pass.app as usize];

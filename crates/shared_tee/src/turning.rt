@@ -20,6 +20,7 @@ impl<V: Volume, A: Application> SharedTeeOver<V, A> {
     /// `LogFull` where the log has no place for an entry. `NoMemory`. No entry is made then, and the turn may be made again.
     pub fn try_turn(&self, pass: &mut Pass<V, A>, instance: u8) -> Result<TurnKind, SharedAnswer>
         requires of { IsPassOf self.now pass.old }
+        // the pass has made less than 2^60 calls
         requires few { pass.old.calls < 2 ^ 60 }
         ensures of { IsPassOf self.now pass.new }
         ensures goes { GoesOn pass.old pass.new }

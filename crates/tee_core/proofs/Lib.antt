@@ -14,6 +14,7 @@ pub mod SideLemmas
 pub mod Steps
 pub mod Still
 pub mod Stores
+pub mod Ticking
 pub mod Told
 pub mod Turning
 pub mod Turns

@@ -8,7 +8,7 @@ use Rattle.alone.specs.declared.turn.TurnKind.TheVariants as kinds
 use Rattle.alone.specs.Machine.{Machine}
 use Rattle.alone.specs.Marks.{Marks, SameWithin, event_at}
 use Rattle.alone.specs.Runs.{machine_after, most_turns, turns_until}
-use Rattle.alone.specs.Step.{Event, is_answered, is_enabled, step}
+use Rattle.alone.specs.Step.{Event, is_enabled, is_over, step}
 use Rattle.alone.proofs.Counted.{turn_counts}
 use Rattle.alone.proofs.Marked.{marked_corrupt, marked_lost, marked_plain, marked_starved}
 use Rattle.app_side.specs.Represents.{event_of}
@@ -48,8 +48,8 @@ module _ {A : Type 0} (behaviour : Behaviour A) where
   happenings_more m [] e = refl
   happenings_more m (x ∷ made) e = ap (λ hs. happened_in behaviour m x ∷ hs) (happenings_more (step behaviour m x).machine made e)
 
-  -- turns end where the operation is answered
-  turns_done : (marks : Marks) (k : ℕ) (m : Machine A) (i op : ℕ) → is_answered m op ≡ true → turns_until behaviour marks k m i op ≡ []
+  -- turns end where the operation is answered or the instance waits
+  turns_done : (marks : Marks) (k : ℕ) (m : Machine A) (i op : ℕ) → is_over m i op ≡ true → turns_until behaviour marks k m i op ≡ []
   turns_done marks zero m i op h = refl
   turns_done marks (suc k) m i op h =
       let e : Event = event_at marks m i in ap (λ b. cond b [] (e ∷ turns_until behaviour marks k (step behaviour m e).machine i op)) h
@@ -58,7 +58,7 @@ module _ {A : Type 0} (behaviour : Behaviour A) where
   turns_none marks k m i op h = ap (λ n. turns_until behaviour marks n m i op) h
 
   -- and go on where it isn't
-  turns_on : (marks : Marks) (k j : ℕ) (m : Machine A) (i op : ℕ) (e : Event) → k ≡ suc j → is_answered m op ≡ false → event_at marks m i ≡ e
+  turns_on : (marks : Marks) (k j : ℕ) (m : Machine A) (i op : ℕ) (e : Event) → k ≡ suc j → is_over m i op ≡ false → event_at marks m i ≡ e
       → turns_until behaviour marks k m i op ≡ e ∷ turns_until behaviour marks j (step behaviour m e).machine i op
   turns_on marks k j m i op e more h is =
       let at : Event = event_at marks m i in
@@ -109,7 +109,7 @@ module _ {A : Type 0} (behaviour : Behaviour A) where
       event_of_marks marks m h.kind i (at.lost ∙ went.lost) (at.corrupt ∙ went.corrupt) (at.starved ∙ went.starved) may
 
   pub turns_further : (Stands Stands_then : List Event → Type 0) (m : Machine A) (i op k : ℕ) (before told : List Happened) → (run : HasTurned Stands m i op k before told)
-      → k < 10000000 → is_answered run.now op ≡ false → (h : Happened) → is_enabled run.now (event_of h.kind i) ≡ true
+      → k < 10000000 → is_over run.now i op ≡ false → (h : Happened) → is_enabled run.now (event_of h.kind i) ≡ true
       → Stands_then (run.made ++ event_of h.kind i ∷ []) → h ≡ happened_in behaviour run.now (event_of h.kind i)
       → HasTurned Stands_then m i op (k + 1) before (append_if_told told h)
   turns_further Stands Stands_then m i op k before told run within not_yet h may stands same =
@@ -158,9 +158,9 @@ module _ {A : Type 0} (behaviour : Behaviour A) where
           ∙ append-nil run.made;
     }
 
-    pub turns_answered : (m : Machine A) (i op k turns : ℕ) (before told : List Happened) → (run : HasTurned Leads m i op k before told) → run.now.turns ≡ turns → is_answered run.now op ≡ true
+    pub turns_over : (m : Machine A) (i op k turns : ℕ) (before told : List Happened) → (run : HasTurned Leads m i op k before told) → run.now.turns ≡ turns → is_over run.now i op ≡ true
         → IsTurnedUntil behaviour Stands world m app i op turns before told
-    turns_answered m i op k turns before told run counts done = ended m i op k turns before told run counts (λ marks. turns_done marks (most_turns - k) run.now i op done)
+    turns_over m i op k turns before told run counts done = ended m i op k turns before told run counts (λ marks. turns_done marks (most_turns - k) run.now i op done)
 
     pub turns_used : (m : Machine A) (i op k turns : ℕ) (before told : List Happened) → (run : HasTurned Leads m i op k before told) → run.now.turns ≡ turns → 10000000 ≤ k
         → IsTurnedUntil behaviour Stands world m app i op turns before told

@@ -7,7 +7,7 @@ use Rattle.alone.specs.declared.turn.TurnKind.{TurnKind}
 use Rattle.alone.specs.declared.turn.TurnKind.TheVariants as kinds
 use Rattle.alone.specs.Machine.{Machine}
 use Rattle.alone.specs.Runs.{machine_after}
-use Rattle.alone.specs.Step.{Event, Called, Cancelled, Turned, TurnLost, Corrupted, Lost, Starved, Restarted, is_answered, is_changing, is_enabled, step}
+use Rattle.alone.specs.Step.{Event, Called, Cancelled, Turned, TurnLost, Corrupted, Lost, Starved, Restarted, Ticked, is_changing, is_enabled, is_over, step}
 use Rattle.app_side.specs.Represents.{Represents as Runs_as, event_of, store_kind}
 use Rattle.app_side.specs.declared.side.AppSide.{AppSide}
 use Rattle.object_asks.specs.Serving.{SaysChange}
@@ -55,6 +55,7 @@ module _ {A : Type 0} (behaviour : Behaviour A) where
   met_there Lost world app m here = (m, here)
   met_there (Starved instance) world app m here = (m, here)
   met_there (Restarted took) world app m here = (m, here)
+  met_there (Ticked ticks) world app m here = (m, here)
 
   -- the machine of the application after one event
   pub at_step : (world : World A) (app : ℕ) (m : Machine A) (e : Event) → slice_get world app ≡ Some m → slice_get (world_step behaviour world (record { app = app; event = e }))
@@ -98,10 +99,9 @@ module _ {V A : Type 0} (K : VolumeKeeper V) (behaviour : Behaviour A) (world : 
     pub now_turns : run.now.turns ≡ turns_in (slice_get sides app)
     now_turns = sym (sides_turns sides so_far app run.now run.stands.stand.sides_are now_there)
 
-    -- what the application says of the operation
-    pub now_says : (side d : AppSide A) (answer : Bool) → app < length sides → side ≡ get_or sides app d → ((n : Machine A) → Runs_as side n → answer ≡ is_answered n op) →
-        answer ≡ is_answered run.now op
-    now_says side d answer lt value says = says run.now (side_here sides so_far app side d run.now run.stands.stand.sides_are lt value now_there)
+    -- what the value says of the turns of the call
+    pub now_says : (answer : Bool) → ((w : World A) (n : Machine A) → StandWith K sides kept old w → slice_get w app ≡ Some n → answer ≡ is_over n i op) → answer ≡ is_over run.now i op
+    now_says answer says = says so_far run.now run.stands now_there
 
     -- one turn more
     pub made_further : (then : List (AppSide A)) (kept_then : List (Option Directory)) (new : V) (kind : TurnKind) (turn : ℕ) (replies : List Reply)
@@ -109,7 +109,7 @@ module _ {V A : Type 0} (K : VolumeKeeper V) (behaviour : Behaviour A) (world : 
         → ((w : World A) (n : Machine A) → StandWith K sides kept old w → slice_get w app ≡ Some n → is_enabled n (event_of kind i) ≡ true)
         → ((w : World A) (n : Machine A) → StandWith K sides kept old w → slice_get w app ≡ Some n → SaysChange (store_kind kind) (is_changing n i))
         → ((w : World A) (n : Machine A) → StandWith K sides kept old w → slice_get w app ≡ Some n → replies ≡ (step behaviour n (event_of kind i)).replies)
-        → turn ≡ turns_in (slice_get then app) → k < 10000000 → is_answered run.now op ≡ false
+        → turn ≡ turns_in (slice_get then app) → k < 10000000 → is_over run.now i op ≡ false
         → Made then kept_then new (k + 1) before (append_if_told told (turn_happened kind turn i replies))
     made_further then kept_then new kind turn replies steps stands change replied counted within not_yet =
         let e : Event = event_of kind i in

@@ -9,7 +9,7 @@ use Rattle.alone.specs.declared.reply.Reply.{Reply}
 use Rattle.alone.specs.Machine.{Machine}
 use Rattle.alone.specs.Marks.{Marks, SameAt, no_marks}
 use Rattle.alone.specs.Runs.{turns_of_call}
-use Rattle.alone.specs.Step.{Event, Called, Cancelled, Turned, TurnLost, Corrupted, Lost, Starved, Restarted, Stepped, after_call, is_changing, step}
+use Rattle.alone.specs.Step.{Event, Called, Cancelled, Turned, TurnLost, Corrupted, Lost, Starved, Restarted, Ticked, Stepped, after_call, is_changing, step}
 use Rattle.tee_core.specs.declared.happened.Happened.{Happened}
 use Rattle.tee_base.specs.Words.{InstanceNumber}
 
@@ -23,6 +23,7 @@ kind_met m Lost = kinds.Plain
 kind_met m (Cancelled op) = kinds.Plain
 kind_met m (Starved instance) = kinds.Starved
 kind_met m (Restarted took) = kinds.Plain
+kind_met m (Ticked ticks) = kinds.Plain
 
 -- the number of the operation that an event calls or cancels, 0 for any other
 abbrev pub op_called : {A : Type 0} → Machine A → Event → ℕ
@@ -34,6 +35,7 @@ op_called m Lost = 0
 op_called m (Cancelled op) = op
 op_called m (Starved instance) = 0
 op_called m (Restarted took) = 0
+op_called m (Ticked ticks) = 0
 
 -- the instance of an event: for a call the one for which it waits, 0 where it is answered
 abbrev pub instance_met : {A : Type 0} → Event → Stepped A → ℕ
@@ -45,6 +47,7 @@ instance_met Lost s = 0
 instance_met (Cancelled op) s = 0
 instance_met (Starved instance) s = instance
 instance_met (Restarted took) s = 0
+instance_met (Ticked ticks) s = 0
 
 -- what happened in a turn of this kind, after which so many were made
 abbrev pub turn_happened : TurnKind → ℕ → InstanceNumber → List Reply → Happened
@@ -124,8 +127,8 @@ module _ {A : Type 0} (behaviour : Behaviour A) where
   happenings m [] = []
   happenings m (event ∷ events) = happened_in m event ∷ happenings (step behaviour m event).machine events
 
-  -- what is told of a call that is run until it is answered, where its turns go as the marks say: the call, and those of the turns
-  -- that are told
+  -- what is told of a call that is run until it is answered or its instance waits, where its turns go as the marks say: the call, and
+  -- those of the turns that are told
   abbrev pub told_of_call : Marks → Machine A → ℕ → Call → List Happened
   told_of_call marks m client call =
       happened_in m (Called client call) ∷ filter is_told (happenings (after_call m client call).machine (turns_of_call behaviour marks m client call))

@@ -11,7 +11,7 @@ use Rattle.alone.specs.declared.turn.TurnKind.{TurnKind}
 use Rattle.alone.specs.Machine.{Machine}
 use Rattle.alone.specs.Step.{Event as MachineEvent, Called, Cancelled, store_found}
 use Rattle.tee_core.specs.Directories.{AreHeld}
-use Rattle.tee_core.specs.Sides.{AreSides, turns_in}
+use Rattle.tee_core.specs.Sides.{AreSides, MayTick, turns_in}
 use Rattle.tee_core.specs.World.{World, AppEvent}
 use Rattle.tee_core.specs.declared.happened.Event.{Event}
 use Rattle.tee_core.specs.declared.happened.Event.TheVariants as events
@@ -106,6 +106,10 @@ app_count tee = length tee.sides.items
 -- how many turns the application of this index has made
 abbrev pub turns_made : {B V A : Type 0} {G : Ghosts V} → TeeOver B V A G → ℕ → ℕ
 turns_made tee app = turns_in (slice_get tee.sides.items app)
+
+-- so many ticks more may pass
+abbrev pub MayTickBy : {B V A : Type 0} {G : Ghosts V} → ℕ → TeeOver B V A G → Type 0
+MayTickBy ticks tee = MayTick ticks tee.sides.items
 
 -- the application of an event
 abbrev pub app_of : Event → ℕ

@@ -1,7 +1,7 @@
 -- Applications side by side, without what keeps their objects.
-use Rattle.std.specs.Prelude.{ℕ, ◌≡◌, Bool, false, List, [], ◌∷◌, Option, None, Some}
+use Rattle.std.specs.Prelude.{ℕ, ◌≡◌, ◌<◌, ◌+◌, ◌^◌, Bool, false, List, [], ◌∷◌, Option, None, Some}
 use Rattle.std.specs.Coded.{Coded-set, coded_bool, coded_ℕ, Unit-prop, ×_prop}
-use Rattle.app_side.specs.Represents.{Represents as Runs_as, boot_of, has_doubt, is_lost, turns_of}
+use Rattle.app_side.specs.Represents.{Represents as Runs_as, boot_of, has_doubt, is_lost, ticks_in, turns_of}
 use Rattle.app_side.specs.declared.side.AppSide.{AppSide}
 use Rattle.store_api.specs.Volumes.{VolumeKeeper}
 use Rattle.tee_core.specs.World.{World}
@@ -42,6 +42,11 @@ AreBooted-prop boots (side ∷ sides) = ×_prop (Coded-set coded_ℕ (boot_of si
 abbrev pub turns_in : {A : Type 0} → Option (AppSide A) → ℕ
 turns_in None = 0
 turns_in (Some side) = turns_of side
+
+-- so many ticks more may pass for each of them
+abbrev pub MayTick : {A : Type 0} → ℕ → List (AppSide A) → Type 0
+MayTick ticks [] = Unit {0}
+MayTick ticks (side ∷ sides) = (ticks_in side + ticks < 2 ^ 63) × MayTick ticks sides
 
 -- none of them has a change in doubt
 abbrev pub IsNoneInDoubt : {A : Type 0} → List (AppSide A) → Type 0

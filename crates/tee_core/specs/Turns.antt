@@ -14,8 +14,9 @@ use Rattle.tee_core.specs.World.{AppEvent, World, events_at, run_events, world_a
 
 -- Stands says of a world that a value stands for it
 module _ {A : Type 0} (behaviour : Behaviour A) (Stands : World A → Type 0) (world : World A) (m : Machine A) (app instance op : ℕ) where
-  -- turns of the instance of this machine of the world were made until the operation was answered, so many in all: the world, and what is
-  -- told behind what was told before, are those that they lead to, and they are the turns that all marks give that agree with what is told
+  -- turns of the instance of this machine of the world were made until the operation was answered or the instance waited, so many in
+  -- all: the world, and what is told after what was told before, are those that they lead to, and they are the turns that all marks give
+  -- that agree with what is told
   pub record IsTurnedUntil (turns : ℕ) (before told : List Happened) : Type 0 where
     pub made : List Event
     pub stands : Stands (world_after behaviour world (events_at behaviour app made))

@@ -7,7 +7,7 @@ use Rattle.store_api.specs.Stores.{Store}
 use Rattle.alone.specs.Machine.{Machine, start}
 use Rattle.alone.specs.Marks.{Marks}
 use Rattle.alone.specs.Runs.{events_of_call, turns_of}
-use Rattle.alone.specs.Step.{Event, Called, Cancelled, Turned, TurnLost, Corrupted, Lost, Starved, Restarted, step}
+use Rattle.alone.specs.Step.{Event, Called, Cancelled, Turned, TurnLost, Corrupted, Lost, Starved, Restarted, Ticked, step}
 use Rattle.tee_base.specs.Words.{InstanceNumber}
 
 -- the machines of the hosts, in their order
@@ -40,6 +40,7 @@ module _ {A : Type 0} (behaviour : Behaviour A) where
   met_by_others Lost world = world
   met_by_others (Starved instance) world = world
   met_by_others (Restarted took) world = world
+  met_by_others (Ticked ticks) world = world
 
   -- the world after its machine of this index has made an event; nothing happens to a machine that there isn't
   abbrev pub moved_at : World A → ℕ → Event → Option (Machine A) → World A
@@ -50,6 +51,10 @@ module _ {A : Type 0} (behaviour : Behaviour A) where
   abbrev pub world_step : World A → AppEvent → World A
   world_step world e = moved_at world e.app e.event (slice_get world e.app)
 
+  -- the world after so many ticks, which pass for every machine
+  abbrev pub after_ticks : World A → ℕ → World A
+  after_ticks world ticks = map (λ m. (step behaviour m (Ticked ticks)).machine) world
+
   -- the world after events
   abbrev pub world_after : World A → List AppEvent → World A
   world_after world [] = world
@@ -59,12 +64,14 @@ module _ {A : Type 0} (behaviour : Behaviour A) where
   abbrev pub events_at : ℕ → List Event → List AppEvent
   events_at app events = map (λ event. record { app = app; event = event }) events
 
-  -- a call of the application that has this machine, and turns until it is answered; nothing where there is no machine
+  -- a call of the application that has this machine, and turns until it is answered or its instance waits; nothing where there is no
+  -- machine
   abbrev pub called_at : Marks → ℕ → ℕ → Call → Option (Machine A) → List AppEvent
   called_at marks app client call None = []
   called_at marks app client call (Some m) = events_at app (events_of_call behaviour marks m client call)
 
-  -- a call of an application, and turns of its instance until it is answered, which go as these marks of the application say
+  -- a call of an application, and turns of its instance until it is answered or the instance waits, which go as these marks of the
+  -- application say
   abbrev pub run_events : Marks → World A → ℕ → ℕ → Call → List AppEvent
   run_events marks world app client call = called_at marks app client call (slice_get world app)
 

@@ -25,6 +25,7 @@ impl Directories {
 
     /// Takes out what is kept of a region.
     pub fn take(&mut self, region: u8) -> Option<Kept>
+        // there is such a region
         requires { region < MAX_HOSTS }
         ensures taken { result ≡ kept_at self.old.places region }
         ensures others { (other : ℕ) → other ≢ region
@@ -35,6 +36,7 @@ impl Directories {
 
     /// Keeps this of a region.
     pub fn put(&mut self, region: u8, kept: Option<Kept>)
+        // there is such a region
         requires { region < MAX_HOSTS }
         ensures own { kept_at self.new.places region ≡ kept }
         ensures others { (other : ℕ) → other ≢ region

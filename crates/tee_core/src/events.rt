@@ -1,20 +1,21 @@
 //! Events of all applications, each of them one event of every world that the value represents.
 
 ghost use Rattle.tee_base.specs.declared.limits.TheConstants.{MAX_CLIENTS, MAX_NUMBER};
-ghost use Rattle.std.specs.Prelude.{◌≡◌, ◌<◌, ◌≤◌, ◌+◌, ◌^◌, ℕ, [], IfOk, OnErr, Some, slice_get};
+ghost use Rattle.std.specs.Prelude.{◌≡◌, ◌<◌, ◌≤◌, ◌+◌, ◌^◌, ◌↔◌, ℕ, [], IfOk, IsTrue, OnErr, Some, slice_get};
 ghost use Rattle.alone.specs.Machine.{Machine};
 ghost use Rattle.alone.specs.declared.turn.TurnKind.TheVariants.{Plain};
-ghost use Rattle.alone.specs.Step.{is_answered, is_changing, step, Called, Cancelled};
+ghost use Rattle.alone.specs.Step.{is_answered, is_changing, is_over, step, Called, Cancelled};
+ghost use Rattle.alone.specs.Waiting.{is_waiting};
 ghost use Rattle.app_side.specs.Represents.{event_of as turn_of, store_kind};
 ghost use Rattle.object_asks.specs.Serving.{SaysChange};
 ghost use Rattle.tee_core.specs.Happenings.{happened_in};
-ghost use Rattle.tee_core.specs.Represents.{app_count, app_of, event_of, machine_event, turns_made, volume_of, IsCall, IsOfClient, KeepsMachines, Represents};
-ghost use Rattle.tee_core.specs.Stepping.{KeepsOthers, MakesEvent};
-ghost use Rattle.tee_core.specs.World.{World};
+ghost use Rattle.tee_core.specs.Represents.{app_count, app_of, boots_of, event_of, machine_event, turns_made, volume_of, IsCall, IsOfClient, KeepsMachines, MayTickBy, Represents};
+ghost use Rattle.tee_core.specs.Stepping.{KeepsOthers, KeepsTurns, MakesEvent};
+ghost use Rattle.tee_core.specs.World.{World, after_ticks};
 
 use crate::directories::Directories;
 use crate::happened::{Event, Happened};
-use crate::sides::{lose_all, turn_over};
+use crate::sides::{lose_all, may_tick_all, tick_all, turn_over};
 use crate::tee::TeeOver;
 use alone::{Call, Replies, TurnKind};
 use app_api::Application;
@@ -37,6 +38,53 @@ impl<B, V: Volume, A: Application> TeeOver<B, V, A> {
             → slice_get world app ≡ Some m → result ≡ is_answered m op }
     {
         self.sides[app as usize].answered(op)
+    }
+
+    /// Whether the instance waits: a turn of it changes nothing but the number of turns then.
+    pub fn waits(&self, app: u8, instance: u8) -> bool
+        // the application is one of the hosts'
+        requires { app < app_count self.now }
+        // the instance waits in the machine of the application
+        ensures { (world : World A) (m : Machine A) → Represents self.now world
+            → slice_get world app ≡ Some m → result ≡ is_waiting m instance }
+    {
+        self.sides[app as usize].waits(instance)
+    }
+
+    /// Whether the turns of a call are over: its operation is answered, or its instance waits.
+    pub fn is_over(&self, app: u8, instance: u8, op: u64) -> bool
+        // the application is one of the hosts'
+        requires { app < app_count self.now }
+        // the call is over in the machine of the application
+        ensures { (world : World A) (m : Machine A) → Represents self.now world
+            → slice_get world app ≡ Some m → result ≡ is_over m instance op }
+    {
+        self.answered(app, op) || self.waits(app, instance)
+    }
+
+    /// Whether so many ticks more may pass.
+    pub fn may_tick(&self, ticks: u32) -> bool
+        // exactly where the ticks of each application stay below 2^63
+        ensures { IsTrue result ↔ MayTickBy ticks self.now }
+    {
+        may_tick_all(self.sides.as_slice(), ticks)
+    }
+
+    /// So many ticks pass, for every application. It takes no memory.
+    pub fn tick(&mut self, ticks: u32)
+        // the ticks of each application stay below 2^63
+        requires { MayTickBy ticks self.old }
+        // each machine of the world goes so many ticks on, and nothing else happens
+        ensures world { (world : World A) → Represents self.old world
+            → Represents self.new (after_ticks A.behaviour world ticks) }
+        // the volume is as before
+        ensures volume { volume_of self.new ≡ volume_of self.old }
+        // there are as many applications as before, and each has made as many turns
+        ensures kept { KeepsTurns self.old self.new }
+        // the power was lost as often as before
+        ensures boots { boots_of self.new ≡ boots_of self.old }
+    {
+        tick_all(&mut self.sides, ticks);
     }
 
     /// One event: the machine of its application moves, and no other but by a loss of the storage, which each of them

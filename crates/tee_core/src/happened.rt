@@ -32,8 +32,8 @@ pub struct Happened {
     pub replies: Replies,
 }
 
-/// What is told of a call that was run until it was answered: the call, and then each turn that had a reply or wasn't
-/// plain, in order.
+/// What is told of a call that was run until it was answered or its instance waited: the call, and then each turn that had a
+/// reply or wasn't plain, in order.
 #[derive(Debug, Drop)]
 pub struct RunReplies {
     items: Vec<Happened>,
@@ -63,7 +63,9 @@ impl RunReplies {
 
     /// Tells one more. Want of memory changes nothing.
     pub fn push(&mut self, happened: Happened) -> Result<(), NoMemory>
+        // it is told after all that was told before
         ensures ok { OnOk result (self.new ≡ self.old ++ happened ∷ []) }
+        // where there is no memory, what was told is as before
         ensures err { OnErr result (self.new ≡ self.old) }
     {
         self.items.push(happened)?;
@@ -79,9 +81,12 @@ impl RunReplies {
         instance: u8,
         replies: &mut Replies,
     ) -> Result<(), NoMemory>
+        // the turn is told after all that was told before, if it is to be told
         ensures ok { OnOk result (self.new
             ≡ append_if_told self.old (turn_happened kind turn instance replies.old)) }
+        // its replies are taken, also where there is no memory
         ensures taken { replies.new ≡ [] }
+        // where there is no memory, what was told is as before
         ensures err { OnErr result (self.new ≡ self.old) }
     {
         if matches!(kind, TurnKind::Plain) && replies.is_empty() {

@@ -1,4 +1,4 @@
-//! Calls that are run until they are answered.
+//! Calls that are run until they are answered, or their instances wait.
 
 ghost use Rattle.std.specs.Prelude.{◌≡◌, ◌+◌, ◌≤◌, ◌<◌, ◌^◌, false, IfOk, OnErr, OnOk, Some, slice_get};
 ghost use Rattle.tee_base.specs.declared.limits.TheConstants.{MAX_CALL_TURNS, MAX_CLIENTS, MAX_NUMBER};
@@ -20,15 +20,16 @@ use store_api::Volume;
 use tee_base::{NoMemory, limits};
 
 impl<B, V: Volume, A: Application> TeeOver<B, V, A> {
-    /// A call of a known application, and then turns of its instance until it is answered. Under all marks that agree
-    /// with what was told on every turn that was made it is the run that they give: those turns that were told as lost,
-    /// damaged or starved are marked so, and no others.
+    /// A call of a known application, and then turns of its instance until it is answered or the instance waits. Under all
+    /// marks that agree with what was told on every turn that was made it is the run that they give: those turns that were
+    /// told as lost, damaged or starved are marked so, and no others.
     ///
     /// # Errors
     ///
     /// There is no memory for the call, or to tell of what happened: then only the first events of such a run were made.
     pub fn run(&mut self, app: u8, client: u8, call: Call) -> Result<RunReplies, NoMemory>
         requires known { app < app_count self.old }
+        // the client is one of those that there are
         requires client { client < MAX_CLIENTS }
         requires room { turns_made self.old app + MAX_CALL_TURNS ≤ MAX_NUMBER }
         ensures world { IfOk result (λ told.
@@ -63,7 +64,8 @@ impl<B, V: Volume, A: Application> TeeOver<B, V, A> {
         Ok(told)
     }
 
-    /// Turns of the instance until the operation is answered; those that have a reply, or aren't plain, are told.
+    /// Turns of the instance until the operation is answered or the instance waits; those that have a reply, or aren't plain,
+    /// are told.
     ///
     /// # Errors
     ///
@@ -97,7 +99,7 @@ impl<B, V: Volume, A: Application> TeeOver<B, V, A> {
     {
         let mut replies = Replies::none();
         for _ in 0..limits::MAX_CALL_TURNS {
-            if self.sides[app as usize].answered(op) {
+            if self.is_over(app, instance, op) {
                 return Ok(());
             }
             let kind = self.advance(app, instance, &mut replies);

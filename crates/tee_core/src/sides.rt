@@ -1,6 +1,6 @@
 //! Applications side by side: turns over their regions, losses and restarts of all of them.
 
-ghost use Rattle.std.specs.Prelude.{◌≡◌, ◌≤◌, ◌<◌, ◌+◌, ◌-◌, ◌^◌, ℕ, [], false, true, IfNone, IfSome, length, map, slice_get, Some};
+ghost use Rattle.std.specs.Prelude.{◌≡◌, ◌≤◌, ◌<◌, ◌+◌, ◌-◌, ◌^◌, ◌↔◌, ℕ, Bool, [], false, true, IfNone, IfSome, IsTrue, length, map, slice_get, Some};
 ghost use Rattle.std.specs.List.{position};
 ghost use Rattle.tee_base.specs.declared.limits.TheConstants.{MAX_HOSTS, MAX_NUMBER};
 ghost use Rattle.alone.specs.Machine.{Machine};
@@ -8,9 +8,9 @@ ghost use Rattle.alone.specs.Step.{step, Lost};
 ghost use Rattle.app_side.specs.Represents.{boot_of, has_doubt, is_lost, turns_of, Represents};
 ghost use Rattle.app_side.specs.declared.side.AppSide.{AppSide as Side};
 ghost use Rattle.tee_core.specs.Powers.{all_lost, kept_one, restarts_from};
-ghost use Rattle.tee_core.specs.Sides.{AreBooted, AreLost, AreSides, IsNoneInDoubt};
+ghost use Rattle.tee_core.specs.Sides.{AreBooted, AreLost, AreSides, IsNoneInDoubt, MayTick};
 ghost use Rattle.tee_core.specs.Turning.{TurnsOver};
-ghost use Rattle.tee_core.specs.World.{World};
+ghost use Rattle.tee_core.specs.World.{World, after_ticks};
 
 use alone::{Replies, TurnKind};
 use app_api::Application;
@@ -93,6 +93,33 @@ pub(crate) fn restart_all<A: Application>(
         sides[index].restart(took);
     }
     *boots += 1;
+}
+
+/// Whether so many ticks more may pass for all of them.
+pub(crate) fn may_tick_all<A: Application>(sides: &[AppSide<A>], ticks: u32) -> bool
+    ensures { IsTrue result ↔ MayTick ticks sides.now }
+{
+    for side in sides {
+        if !side.may_tick(ticks) {
+            return false;
+        }
+    }
+    true
+}
+
+/// So many ticks pass for all of them.
+pub(crate) fn tick_all<A: Application>(sides: &mut Vec<AppSide<A>>, ticks: u32)
+    requires { MayTick ticks sides.old.items }
+    ensures sides { (world : World A) → AreSides sides.old.items world
+        → AreSides sides.new.items (after_ticks A.behaviour world ticks) }
+    ensures lost { (lost : Bool) → AreLost lost sides.old.items → AreLost lost sides.new.items }
+    ensures turns { map (λ s. turns_of s) sides.new.items ≡ map (λ s. turns_of s) sides.old.items }
+    ensures boots { (boots : ℕ) → AreBooted boots sides.old.items
+        → AreBooted boots sides.new.items }
+{
+    for index in 0..sides.len() {
+        sides[index].tick(ticks);
+    }
 }
 
 /// The application of this index keeps its change in doubt.

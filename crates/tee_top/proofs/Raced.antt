@@ -110,6 +110,7 @@ named_line count (lines.Turns a c instance turns) known app client is = subst (�
 named_line count (lines.Cancel a c op) known app client is = subst (λ n. n < count) (eqb-true a app (and_parts (a == app) (c == client) is).0) known
 named_line count (lines.Fuse calls) known app client is = absurd (cc)
 named_line count (lines.Power pick) known app client is = absurd (cc)
+named_line count (lines.Tick ticks) known app client is = absurd (cc)
 
 -- lines that name hosts that there are name applications that there are
 pub named_known : (count : ℕ) (script : List Line) → AllByRecursion (IsKnown count) script → NameApps count script

@@ -39,6 +39,9 @@ Store 13 vi:N:0                            asks N times whether it is cancelled
 Store 14 vi:N:MASK                         the same, and unmasks cancellation where MASK is 1
 Store 15 mo                                draws random bytes
 Store 16 mo                                tells who the client is
+Store 17 vi:TICKS:MASK                     waits for so many ticks, and unmasks cancellation where MASK is 1
+Store 18 vi:SECONDS:MILLIS                 sets the application's own time
+Store 19 vo                                tells the application's own time
 ";
 
 const COUNT: &str = "\

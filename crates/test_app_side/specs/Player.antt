@@ -1,5 +1,5 @@
 -- The application of the tests: it plays asks in turn.
-use Rattle.std.specs.Prelude.{◌==◌, [], ◌∷◌, true, if◌then◌else◌}
+use Rattle.std.specs.Prelude.{ℕ, ◌==◌, ◌-◌, nat_lt, [], ◌∷◌, true, if◌then◌else◌}
 use Rattle.tee_base.specs.declared.codes.Code.{Code}
 use Rattle.tee_base.specs.declared.codes.TheConstants.Code.{SUCCESS, CANCEL}
 use Rattle.app_api.specs.declared.ask.Ask.{Ask}
@@ -13,11 +13,13 @@ use Rattle.test_app_side.specs.declared.player.Play.{Play}
 use Rattle.test_app_side.specs.declared.player.Play.TheVariants as plays
 use Rattle.test_app_side.specs.declared.player.Player.{Player}
 
--- what the last answer tells: the code of a refusal, CANCEL for yes, the number of a login for an identity, and else SUCCESS
+-- what the last answer tells: the code of a refusal, CANCEL for yes, the number of a login for an identity, the seconds of a time, and
+-- else SUCCESS
 abbrev pub told_by : Given → Code
 told_by (givens.Answer (answers.Refused code)) = code
 told_by (givens.Answer (answers.Truth true)) = CANCEL
 told_by (givens.Answer (answers.Identity login id)) = record { 0 = login }
+told_by (givens.Answer (answers.Time seconds millis)) = record { 0 = seconds }
 told_by given = SUCCESS
 
 -- the return of this code, without outputs
@@ -47,15 +49,20 @@ ask_of (plays.Give code) told = give_with code
 ask_of plays.Told told = return_with told
 ask_of (plays.Expect code) told = success_if code told
 ask_of plays.Flag told = asked.CancelFlag
+ask_of (plays.Flags count) told = asked.CancelFlag
 ask_of plays.Mask told = asked.CancelMask
 ask_of plays.Unmask told = asked.CancelUnmask
 ask_of plays.Who told = asked.ClientIdentity
+ask_of (plays.Wait ticks) told = asked.Wait ticks
+ask_of plays.SystemTime told = asked.SystemTime
+ask_of (plays.SetTime seconds millis) told = asked.SetAppTime seconds millis
+ask_of plays.OwnTime told = asked.AppTime
 ask_of plays.Create told = making
 ask_of plays.Open told = opening
 
--- what is left to play; then each entry returns SUCCESS
-abbrev pub rest : Player → Given → Player
-rest a given = record {
+-- what is left when the first has been played; then each entry returns SUCCESS
+abbrev pub without_first : Player → Player
+without_first a = record {
   first = a.second;
   second = a.third;
   third = a.fourth;
@@ -63,3 +70,16 @@ rest a given = record {
   fifth = a.sixth;
   sixth = plays.Return SUCCESS;
 }
+
+-- the same, where the first is to read so many flags
+abbrev pub fewer_flags : Player → ℕ → Player
+fewer_flags a count = if nat_lt 1 count then record a { first = plays.Flags (count - 1) } else without_first a
+
+-- what is left to play, where this is the first
+abbrev pub rest_by : Player → Play → Player
+rest_by a (plays.Flags count) = fewer_flags a count
+rest_by a play = without_first a
+
+-- what is left to play
+abbrev pub rest : Player → Player
+rest a = rest_by a a.first

@@ -1,5 +1,5 @@
-//! What no script reaches: entries that fail, cancellation as an entry begins, and what ends an application's instances from
-//! outside.
+//! What no script reaches: entries that fail, cancellation as an entry begins, what ends an application's instances from outside,
+//! and when waits end.
 #![tactic(auto)]
 
 #[cfg(test)]
@@ -9,3 +9,5 @@ pub mod player;
 mod rows;
 #[cfg(test)]
 mod tables;
+#[cfg(test)]
+mod waits;

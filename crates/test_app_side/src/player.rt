@@ -15,15 +15,23 @@ pub enum Play {
     /// The entry returns this code, and the bytes `xy` for its first parameter.
     Give(Code),
     /// The entry returns the code that the last ask was refused with, CANCEL where it was answered yes, the number of the login
-    /// where it was answered with an identity, and else SUCCESS.
+    /// where it was answered with an identity, the seconds where with a time, and else SUCCESS.
     Told,
     /// The entry returns SUCCESS where `Told` would return this, and else panics.
     Expect(Code),
     Flag,
+    /// So many flags are read.
+    Flags(u32),
     Mask,
     Unmask,
     /// Who the client is.
     Who,
+    /// A wait of so many ticks.
+    Wait(u32),
+    SystemTime,
+    /// The time of the application is set to these seconds and milliseconds.
+    SetTime(u32, u32),
+    OwnTime,
     /// The object `a` is made anew, or opened.
     Create,
     Open,
@@ -59,6 +67,7 @@ fn told_by(given: &Given) -> Code
         Given::Answer(Answer::Refused(code)) => *code,
         Given::Answer(Answer::Truth(true)) => Code::CANCEL,
         Given::Answer(Answer::Identity { login, .. }) => Code(*login),
+        Given::Answer(Answer::Time { seconds, .. }) => Code(*seconds),
         _ => Code::SUCCESS,
     }
 }
@@ -120,18 +129,43 @@ fn ask_of(alloc: Global, play: Play, told: Code) -> Result<Ask, NoMemory>
         Play::Give(code) => give_with(alloc, code),
         Play::Told => Ok(return_with(told)),
         Play::Expect(code) => Ok(success_if(code, told)),
-        Play::Flag => Ok(Ask::CancelFlag),
+        Play::Flag | Play::Flags(_) => Ok(Ask::CancelFlag),
         Play::Mask => Ok(Ask::CancelMask),
         Play::Unmask => Ok(Ask::CancelUnmask),
         Play::Who => Ok(Ask::ClientIdentity),
+        Play::Wait(ticks) => Ok(Ask::Wait { ticks }),
+        Play::SystemTime => Ok(Ask::SystemTime),
+        Play::SetTime(seconds, millis) => Ok(Ask::SetAppTime { seconds, millis }),
+        Play::OwnTime => Ok(Ask::AppTime),
         Play::Create => create(alloc),
         Play::Open => open(alloc),
     }
 }
 
+/// What is left to play.
+fn rest(player: &Player) -> Player
+    ensures { result ≡ player.rest player.now }
+{
+    match player.first {
+        Play::Flags(count) if count > 1 => {
+            let mut next = *player;
+            next.first = Play::Flags(count - 1);
+            next
+        }
+        _ => Player {
+            first: player.second,
+            second: player.third,
+            third: player.fourth,
+            fourth: player.fifth,
+            fifth: player.sixth,
+            sixth: DONE,
+        },
+    }
+}
+
 impl Application for Player {
     ghost behaviour = { record {
-      next = player.rest;
+      next = λ a given. player.rest a;
       asks = λ a given. player.ask_of a.first (player.told_by given);
     } };
 
@@ -139,14 +173,7 @@ impl Application for Player {
         let told = told_by(&given);
         drop(given);
         let ask = ask_of(alloc, self.first, told)?;
-        *self = Player {
-            first: self.second,
-            second: self.third,
-            third: self.fourth,
-            fourth: self.fifth,
-            fifth: self.sixth,
-            sixth: DONE,
-        };
+        *self = rest(self);
         Ok(ask)
     }
 

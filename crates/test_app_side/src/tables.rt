@@ -48,6 +48,10 @@ pub enum Do {
     Live(usize),
     /// An ask waits that may need the store.
     NeedsStore,
+    /// So many ticks.
+    Tick(u32),
+    /// Whether the instance waits.
+    Waits(bool),
 }
 
 /// A reply: its operation, code and origin.
@@ -185,6 +189,15 @@ fn turn_without_store(rt: &impl Abort, side: &mut AppSide<Player>) -> Replies
     side.turn_without_store(1).replies
 }
 
+/// So many ticks, which answer nothing.
+fn tick(rt: &impl Abort, side: &mut AppSide<Player>, ticks: u32) -> Replies
+    ensures { is_lost side.new ≡ is_lost side.old }
+{
+    assert!(rt; side.may_tick(ticks));
+    side.tick(ticks);
+    Replies::none()
+}
+
 /// What needs no store.
 fn event(rt: &impl Abort, alloc: Global, side: &mut AppSide<Player>, what: &Do) -> Replies
     ensures { is_lost side.new ≡ is_lost side.old }
@@ -194,6 +207,7 @@ fn event(rt: &impl Abort, alloc: Global, side: &mut AppSide<Player>, what: &Do) 
         Do::Starve => starve(rt, side),
         Do::Teardown(code) => side.teardown(1, *code),
         Do::TurnWithoutStore => turn_without_store(rt, side),
+        Do::Tick(ticks) => tick(rt, side, *ticks),
         _ => call(rt, alloc, side, what),
     }
 }
@@ -297,6 +311,7 @@ fn is_row_told<S: AppStore>(
         Do::Turn(kind) => is_turn_told(rt, side, store, *kind, wanted),
         Do::Live(count) => side.live() == *count,
         Do::NeedsStore => side.needs_store(1),
+        Do::Waits(wanted) => side.waits(1) == *wanted,
         _ => is_event_told(rt, alloc, side, what, wanted),
     }
 }

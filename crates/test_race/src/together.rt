@@ -51,19 +51,19 @@ vault 3 00000000 1 p0=4:00616200
 vault 4 00000000 1
 ";
 
-/// Whether a line is a reply of the first client's application.
-fn is_reply(line: &[u8]) -> bool {
-    match line.strip_prefix(b"vault ".as_slice()) {
+/// Whether a line is a reply of this host's.
+fn is_reply(line: &[u8], host: &str) -> bool {
+    match line.strip_prefix(host.as_bytes()) {
         Some([digit, ..]) => digit.is_ascii_digit(),
         _ => false,
     }
 }
 
-/// The lines of its replies in what a race wrote.
-fn replies_of(rt: &impl Abort, alloc: Global, written: &[u8]) -> Vec<u8> {
+/// The lines of a host's replies in what a race wrote. The host's name comes with a space.
+pub fn replies_of(rt: &impl Abort, alloc: Global, written: &[u8], host: &str) -> Vec<u8> {
     let mut replies = Vec::new(alloc);
     for line in written.split(|c| *c == b'\n') {
-        if is_reply(line) {
+        if is_reply(line, host) {
             replies.extend_from_slice(line).expect(rt, "a line");
             replies.push(b'\n').expect(rt, "a line's end");
         }
@@ -81,7 +81,7 @@ fn they_meet<R: Threads + Wait + Sync + Abort>(
     let gate = Meeting::new();
     let board = blank(rt, alloc, limits::BOARD_BLOCKS);
     let (number, written) = race_on(rt, alloc, race_of(script), board, &gate);
-    let found = replies_of(rt, alloc, written.as_slice());
+    let found = replies_of(rt, alloc, written.as_slice(), "vault ");
     number == 0 && found.as_slice() == replies.as_bytes() && gate.have_met()
 }
 

@@ -103,7 +103,39 @@ identity 67305985 abcdefghijklmnop > 00000000 p0=<1><2><3><4>abcdefghijklmnop
 refused ffff0008 > ffff0008
 16 vi:5:1 > ffff0006
 16 mo:20 vo > ffff0006
+17 vi:5:0 > Wait 5
+done > 00000000
+17 vi:0:2 > Wait 0
+refused ffff0002 > ffff0002
+17 vi:4294967295:1 > CancelUnmask
+true > Wait 4294967295
+refused ffff0002 > ffff0002
+17 vi:5:1 > CancelUnmask
+false > Wait 5
+done > 00000000
+17 vi:5:1 > CancelUnmask
+refused ffff000d > ffff000d
+17 vi:5:1 > CancelUnmask
+done > ffff0000
+17 vi:5:0 > Wait 5
+time 5 0 > ffff0000
 17 mo:20 > ffff0006
+17 vi:5:1 vo > ffff0006
+18 vi:10:500 > SetAppTime 10 500
+done > 00000000
+18 vi:0:4294967295 > SetAppTime 0 4294967295
+refused ffff0006 > ffff0006
+18 vo > ffff0006
+18 vi:10:500 vo > ffff0006
+19 vo > AppTime
+time 11 200 > 00000000 p0=11,200
+19 vo > AppTime
+refused ffff5000 > ffff5000
+19 vo > AppTime
+done > ffff0000
+19 vi:10:500 > ffff0006
+19 vo vo > ffff0006
+20 vo > ffff0006
 3 vi:5:1 > ObjClose 5
 number 5 > ffff0000
 done > ffff0000

@@ -86,7 +86,7 @@ fn first_bad(
     }
 }
 
-const PRINTED: [(&[u8], &[u8]); 13] = [
+const PRINTED: [(&[u8], &[u8]); 14] = [
     (b"", b""),
     (b"one open 1\n", b"one open 1\n"),
     (
@@ -108,6 +108,10 @@ const PRINTED: [(&[u8], &[u8]); 13] = [
     (
         b"client 3\none post open 1\nclient 3\ntwo turn 4 1000000\nclient 0\nclient 7\none cancel 18446744073709551615\nboard fuse 1000000\nboard power 18446744073709551615\nclient 0\ntwo post invoke 1 1\n",
         b"client 3\none post open 1\ntwo turn 4 1000000\nclient 7\none cancel 18446744073709551615\nboard fuse 1000000\nboard power 18446744073709551615\nclient 0\ntwo post invoke 1 1\n",
+    ),
+    (
+        b"board tick 1\nclient 3\nboard  tick 001000000 \none open 1\nboard tick 0000000000000000000000000000000099\n",
+        b"board tick 1\nboard tick 1000000\nclient 3\none open 1\nboard tick 99\n",
     ),
     (
         b"00000000-0000-0000-0000-000000000002 open 1\nurn:uuid:00000000-0000-0000-0000-000000000002 open 2\n{00000000-0000-0000-0000-000000000001} open 3\n00000000000000000000000000000001 open 4\n",
@@ -145,7 +149,7 @@ fn each_spelling_has_its_canonical_text(rt: HostRuntime) -> Result<(), Fail> {
     Ok(())
 }
 
-const BAD: [(&[u8], u64); 61] = [
+const BAD: [(&[u8], u64); 69] = [
     (b"one open 1\none opn 2\n", 2),
     (b"one open 1\n \n", 2),
     (b" # no comment\n", 1),
@@ -168,6 +172,14 @@ const BAD: [(&[u8], u64); 61] = [
     (b"one cancel 18446744073709551616\n", 1),
     (b"board fuse 1000001\n", 1),
     (b"board power 18446744073709551616\n", 1),
+    (b"board tick 0\n", 1),
+    (b"board tick 1\nboard tick 1000001\n", 2),
+    (b"board tick 18446744073709551617\n", 1),
+    (b"board tick\n", 1),
+    (b"board tick 1 1\n", 1),
+    (b"board tick -1\n", 1),
+    (b"board ticks 1\n", 1),
+    (b"one tick 1\n", 1),
     (b"one open 1\none open 1 user:x\n", 2),
     (b"one open 1 user:\n", 1),
     (b"one open 1 user:4294967296\n", 1),
@@ -220,6 +232,9 @@ fn the_first_line_outside_is_named(rt: HostRuntime) -> Result<(), Fail> {
     let board = b"one open 1\nclient 1\none turn 1 1\nboard power 0\n".as_slice();
     assert!(rt; first_bad(alloc, hosts.as_slice(), board, Dialect::Whole)? == None);
     assert!(rt; first_bad(alloc, hosts.as_slice(), board, Dialect::WithoutBoard)? == Some(4));
+    let ticks = b"one open 1\nboard tick 1\n".as_slice();
+    assert!(rt; first_bad(alloc, hosts.as_slice(), ticks, Dialect::Whole)? == None);
+    assert!(rt; first_bad(alloc, hosts.as_slice(), ticks, Dialect::WithoutBoard)? == Some(2));
     Ok(())
 }
 

@@ -157,6 +157,17 @@ pub fn close(object: u32) -> Call {
     command(3, params)
 }
 
+/// Waits for so many ticks.
+pub fn wait(ticks: u32) -> Call {
+    let params = Params {
+        p0: Param::ValueIn(ticks, 0),
+        p1: Param::Nothing,
+        p2: Param::Nothing,
+        p3: Param::Nothing,
+    };
+    command(17, params)
+}
+
 /// What became of a call: the code of its reply and the first value that the reply shows, and whether a turn of it lost
 /// the storage, with a change in doubt or without.
 #[derive(Clone, Copy)]

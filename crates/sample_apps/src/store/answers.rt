@@ -6,7 +6,7 @@ ghost use Rattle.std.specs.Int.{w32, to_le_bytes};
 ghost use Rattle.sample_apps.specs.StoreAnswers as rows;
 
 use crate::store::Store;
-use crate::store::commands::{PRIVATE_STORAGE, poll, watch};
+use crate::store::commands::{PRIVATE_STORAGE, poll, wait, watch};
 use app_api::{Answer, Ask, Out, Outs};
 use app_kit::{Reaction, at_p0, at_p1, at_p2, at_p3};
 use std::alloc::Global;
@@ -280,5 +280,25 @@ pub fn client_identified(alloc: Global, answer: Answer) -> Result<Reaction<Store
     match answer {
         Answer::Identity { login, id } => tell_identity(alloc, login, &id),
         other => Ok(refused(other)),
+    }
+}
+
+#[tactic(auto, unfolding(crate::specs::StoreAnswers::wait_unmasked))]
+pub fn wait_unmasked(ticks: u32, answer: Answer) -> Reaction<Store>
+    ensures { result ≡ rows.wait_unmasked ticks answer }
+{
+    match answer {
+        Answer::Truth(_) => wait(ticks),
+        other => refused(other),
+    }
+}
+
+#[tactic(auto, unfolding(crate::specs::StoreAnswers::time_told))]
+pub fn time_told(answer: Answer) -> Reaction<Store>
+    ensures { result ≡ rows.time_told answer }
+{
+    match answer {
+        Answer::Time { seconds, millis } => succeed(at_p0(Out::Value(seconds, millis))),
+        other => refused(other),
     }
 }

@@ -46,6 +46,13 @@ pub fn watch(polls: u32) -> Reaction<Store>
     Reaction::ask_for(Store::Watching { left: polls - 1 }, Ask::CancelFlag)
 }
 
+/// So many ticks pass before the command ends.
+pub fn wait(ticks: u32) -> Reaction<Store>
+    ensures { result ≡ rows.waits ticks }
+{
+    Reaction::ask_for(Store::Acting, Ask::Wait { ticks })
+}
+
 /// The object of an identifier, from a storage.
 #[tactic(auto, unfolding(crate::specs::StoreCommands::open_object))]
 fn open_object(params: &mut Params) -> Reaction<Store>
@@ -353,6 +360,60 @@ fn identify_client(params: &Params) -> Reaction<Store>
     }
 }
 
+/// Waits for so many ticks, after cancellation is unmasked where that is wanted.
+#[tactic(auto, unfolding(crate::specs::StoreCommands::wait_ticks))]
+fn wait_ticks(params: &Params) -> Reaction<Store>
+    ensures { result ≡ rows.wait_ticks params.now.p0 params.now.p1 params.now.p2 params.now.p3 }
+{
+    match *params {
+        Params {
+            p0: Param::ValueIn(ticks, unmask),
+            p1: Param::Nothing,
+            p2: Param::Nothing,
+            p3: Param::Nothing,
+        } => {
+            if unmask == 1 {
+                Reaction::ask_for(Store::UnmaskingWait { ticks }, Ask::CancelUnmask)
+            } else {
+                wait(ticks)
+            }
+        },
+        _ => misfit(),
+    }
+}
+
+/// Sets the application's own time.
+#[tactic(auto, unfolding(crate::specs::StoreCommands::set_time))]
+fn set_time(params: &Params) -> Reaction<Store>
+    ensures { result ≡ rows.set_time params.now.p0 params.now.p1 params.now.p2 params.now.p3 }
+{
+    match *params {
+        Params {
+            p0: Param::ValueIn(seconds, millis),
+            p1: Param::Nothing,
+            p2: Param::Nothing,
+            p3: Param::Nothing,
+        } => Reaction::ask_for(Store::Acting, Ask::SetAppTime { seconds, millis }),
+        _ => misfit(),
+    }
+}
+
+/// The application's own time.
+#[tactic(auto, unfolding(crate::specs::StoreCommands::tell_time))]
+fn tell_time(params: &Params) -> Reaction<Store>
+    ensures { result ≡ rows.tell_time params.now.p0 params.now.p1 params.now.p2 params.now.p3 }
+{
+    match *params {
+        Params {
+            p0: Param::ValueOut,
+            p1: Param::Nothing,
+            p2: Param::Nothing,
+            p3: Param::Nothing,
+        } => Reaction::ask_for(Store::TellingTime, Ask::AppTime),
+        _ => misfit(),
+    }
+}
+
 /// A command begins.
 #[tactic(auto, unfolding(crate::specs::StoreCommands::command))]
 pub fn command(number: u32, params: Params) -> Reaction<Store>
@@ -376,6 +437,9 @@ pub fn command(number: u32, params: Params) -> Reaction<Store>
         14 => watch_flag(&params),
         15 => draw_random(&params),
         16 => identify_client(&params),
+        17 => wait_ticks(&params),
+        18 => set_time(&params),
+        19 => tell_time(&params),
         _ => misfit(),
     };
     drop(params);

@@ -98,6 +98,15 @@ fn identity(text: &str) -> Result<Answer, Fail> {
     Ok(Answer::Identity { login, id })
 }
 
+/// A point of time: seconds and milliseconds.
+fn time(text: &str) -> Result<Answer, Fail> {
+    let (seconds, millis) = text.split_once(' ').ok_or("the milliseconds are missing")?;
+    Ok(Answer::Time {
+        seconds: number(Some(seconds))?,
+        millis: number(Some(millis))?,
+    })
+}
+
 /// A text, and its tag.
 fn sealed(alloc: Global, text: &str) -> Result<Answer, Fail> {
     let (content, tag) = text.split_once(' ').ok_or("a tag is missing")?;
@@ -116,6 +125,7 @@ fn answer_with(alloc: Global, name: &str, words: &str) -> Result<Option<Answer>,
         "content" => Answer::Content(bytes(alloc, Some(words))?),
         "object" => object(words)?,
         "identity" => identity(words)?,
+        "time" => time(words)?,
         "sealed" => sealed(alloc, words)?,
         "found" => Answer::Found {
             id: bytes(alloc, Some(words))?,
@@ -290,6 +300,9 @@ fn numbers_of(ask: &Ask) -> Option<Numbered> {
         Ask::CancelFlag => without_number("CancelFlag"),
         Ask::CancelUnmask => without_number("CancelUnmask"),
         Ask::ClientIdentity => without_number("ClientIdentity"),
+        Ask::Wait { ticks } => with_number("Wait", *ticks),
+        Ask::SetAppTime { seconds, millis } => with_numbers("SetAppTime", *seconds, *millis),
+        Ask::AppTime => without_number("AppTime"),
         Ask::Random { count } => with_number("Random", *count),
         Ask::KeyNew { kind, max_bits } => with_numbers("KeyNew", *kind, *max_bits),
         Ask::OpNew {

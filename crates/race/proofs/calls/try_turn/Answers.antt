@@ -1,12 +1,12 @@
 use Rattle.std.proofs.Common.{[]}
-use Rattle.race.proofs.GoLemmas.{goes_on, knows_by, turns_once, unturned_goes, unturned_names, unturned_stop}
+use Rattle.race.proofs.GoLemmas.{goes_on, knows_by, turns_next, unturned_goes, unturned_names, unturned_stop}
 use Rattle.race.proofs.calls.try_turn.Goals as goal
 
 pub returns-in-Ok-clause-ok : goal.returns-in-Ok-clause-ok
 returns-in-Ok-clause-ok g c =
     let p = c.args.pass.now in
     let q = c.try_turn.new.pass in
-    turns_once c.in-Ok.field-0 c.args.instance p q (knows_by 1 p q c.try_turn.ensures.goes) c.in-Ok.ensures.ok
+    turns_next c.in-Ok.field-0 c.args.instance p q (knows_by 1 p q c.try_turn.ensures.goes) c.in-Ok.ensures.ok
 
 pub pause-requires-clause-cell : goal.pause-requires-clause-cell
 pause-requires-clause-cell g c =

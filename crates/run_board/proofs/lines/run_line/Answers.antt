@@ -5,7 +5,7 @@ use Rattle.tee_core.specs.Represents.{app_count}
 use Rattle.tee_core.specs.declared.happened.Event.TheVariants as events
 use Rattle.run_board.specs.Parts.{step_events}
 use Rattle.run_board.specs.Reading.{IsKnown}
-use Rattle.run_board.proofs.Layers.{line_of_call, line_of_cancel, line_of_turns, never_stopped, same_end, same_stop}
+use Rattle.run_board.proofs.Layers.{line_of_call, line_of_cancel, line_of_ticks, line_of_turns, never_stopped, same_end, same_stop}
 use Rattle.run_board.proofs.Losses.{losses_none}
 use Rattle.run_board.proofs.Powers.{fuse_whole, order_made}
 use Rattle.run_board.proofs.lines.run_line.Goals as goal
@@ -71,3 +71,6 @@ returns-in-Fuse g c =
 
 pub returns-in-Power : goal.returns-in-Power
 returns-in-Power g c = rw c.in-Power.is c.run_power.ensures
+
+pub returns-in-Tick : goal.returns-in-Tick
+returns-in-Tick g c = rw c.in-Tick.is (line_of_ticks g.A.Application.behaviour g.V.BoardVolume.form c.args.names.now _ c.run_ticks.result _ _ c.run_ticks.ensures)

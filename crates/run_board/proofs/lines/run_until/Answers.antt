@@ -35,10 +35,10 @@ loop-preserved g c =
     c.loop.invariant c.in_ok-run_event.ensures.made
     (λ now stands weather.
     let p = side_at c.loop.tee.sides.items now app stands.stand.sides_are there in
-    until_split behaviour weather now app instance op most_turns k p.0 more p.1 (sym (c.answered.ensures now p.0 stands p.1) ∙ c.if-answered.false))
+    until_split behaviour weather now app instance op most_turns k p.0 more p.1 (sym (c.is_over.ensures now p.0 stands p.1) ∙ c.if-is_over.false))
 
-pub returns-then-answered : goal.returns-then-answered
-returns-then-answered g c =
+pub returns-then-is_over : goal.returns-then-is_over
+returns-then-is_over g c =
     let behaviour = g.A.Application.behaviour in
     let app = c.args.app in
     let instance = c.args.instance in
@@ -49,7 +49,7 @@ returns-then-answered g c =
     c.loop.invariant
     (λ now stands weather.
     let p = side_at c.loop.tee.sides.items now app stands.stand.sides_are there in
-    until_done behaviour weather now app instance op (most_turns - c.loop.counter) p.0 p.1 (sym (c.answered.ensures now p.0 stands p.1) ∙ c.if-answered.true))
+    until_done behaviour weather now app instance op (most_turns - c.loop.counter) p.0 p.1 (sym (c.is_over.ensures now p.0 stands p.1) ∙ c.if-is_over.true))
 
 pub returns-in_err-run_event : goal.returns-in_err-run_event
 returns-in_err-run_event g c =
@@ -69,7 +69,7 @@ returns-in_err-run_event g c =
     c.loop.invariant c.in_err-run_event.ensures.made
     (λ now stands weather.
     let p = side_at c.loop.tee.sides.items now app stands.stand.sides_are there in
-    until_split behaviour weather now app instance op most_turns k p.0 more p.1 (sym (c.answered.ensures now p.0 stands p.1) ∙ c.if-answered.false)))
+    until_split behaviour weather now app instance op most_turns k p.0 more p.1 (sym (c.is_over.ensures now p.0 stands p.1) ∙ c.if-is_over.false)))
 
 pub returns : goal.returns
 returns g c =

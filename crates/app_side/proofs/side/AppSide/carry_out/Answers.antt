@@ -18,7 +18,7 @@ use Rattle.app_side.specs.declared.side.AppSide.{AppSide}
 use Rattle.app_side.specs.Asking.{entry_with_ask, reaching_in_family}
 use Rattle.operation_asks.specs.Kept.{state_of}
 use Rattle.app_side.specs.Represents.{machine_over}
-use Rattle.app_side.proofs.Carried.{carried, entry_left, none_tried, noted_instances, noted_lost, plain_turn_as}
+use Rattle.app_side.proofs.Carried.{carried, entry_left, none_tried, noted_instances, noted_lost, plain_turn_as, time_left}
 use Rattle.app_side.proofs.Crashed.{carried_crash}
 use Rattle.app_side.proofs.side.AppSide.carry_out.Goals as goal
 
@@ -101,3 +101,21 @@ returns-in-Generation g c =
     (reaching_in_family f objects s c.args.instance c.args.ask) (changes_store c.args.ask) c.args.instance c.make_key.result c.args.self.now c.make_key.new.self
     c.args.store.now c.args.store.now) (sym family)
     (generated_whole t c.args.self.now c.make_key.new.self c.args.instance c.args.ask c.make_key.result c.args.store.now c.make_key.ensures)
+
+pub returns-in-Times : goal.returns-in-Times
+returns-in-Times g c =
+    let t = g.T.AppStore.keeper in
+    let kept = t.contents c.args.store.now in
+    let done = c.serve_time.result in
+    let is = c.serve_time.ensures in
+    let family : family_of c.args.ask ≡ families.Times = sym c.family_of.ensures ∙ c.in-Times.is in
+    record {
+      left = λ tells same doubt. time_left c.args.self.now c.serve_time.new.self kept.store doubt c.args.instance (entry_with_ask c.args.entry.now c.args.ask) c.args.ask done family is;
+      kind = plain_turn_as t done.kind _ _ _ _ c.args.store.now is.kind (ap (λ (s : AppSide g.row.A.Denot). s.lost) is.rest);
+      ends = ends_with done.outcome _ (by_nothing t c.args.store.now);
+      tried = none_tried _ (t.status c.args.store.now);
+      want = tt;
+      starves = tt;
+      instances = ap (λ (s : AppSide g.row.A.Denot). s.instances) is.rest;
+      crash = λ honest just doubt. idle_crash t _ _ c.args.store.now just;
+    }

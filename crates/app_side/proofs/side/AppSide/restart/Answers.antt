@@ -12,6 +12,7 @@ returns-clause-step g c m stands =
     record {
       doubt = empty_store;
       parts = ap (λ (x : Machine g.row.A.Denot). record (after_restart x c.args.took) { store = after.store }) stands.parts ∙ (λ i. record begun {
+        clock = sym c.restart.ensures i;
         table = sym c.reset.ensures i;
         instances = sym c.clear.ensures.items i;
         queue = sym c.forget.ensures i;

@@ -5,7 +5,7 @@ use Rattle.tee_core.specs.Moments.{HasRunBehind, TellsNoDamage}
 use Rattle.tee_core.specs.Represents.{Represents, volume_of}
 use Rattle.tee_core.proofs.RunCounts.{kept_further, run_begun, run_further, sound_more, stays_still, told_marked}
 use Rattle.tee_core.proofs.Steps.{on_err_known}
-use Rattle.tee_core.proofs.Turns.{turns_answered, turns_stopped, turns_used}
+use Rattle.tee_core.proofs.Turns.{turns_over, turns_stopped, turns_used}
 use Rattle.tee_core.proofs.TurnsMade.{Made, made_further, made_none, now_says, now_turns}
 use Rattle.tee_core.proofs.tee.TeeOver.turn_until.Goals as goal
 
@@ -21,6 +21,9 @@ loop-init g c = record {
   kept = record { apps = refl; others = λ other apart. refl; boots = refl };
 }
 
+pub is_over-requires : goal.is_over-requires
+is_over-requires g c = omega (arith, c.requires.known, c.loop.invariant.kept.apps)
+
 pub advance-kind-requires : goal.advance-kind-requires
 advance-kind-requires g c = record {
   known = omega (arith, c.requires.known, c.loop.invariant.kept.apps);
@@ -28,18 +31,17 @@ advance-kind-requires g c = record {
   none = c.loop.invariant.none;
 }
 
-pub returns-then-answered-clause-ok : goal.returns-then-answered-clause-ok
-returns-then-answered-clause-ok g c = λ world m is here.
+pub returns-then-is_over-clause-ok : goal.returns-then-is_over-clause-ok
+returns-then-is_over-clause-ok g c = λ world m is here.
     let keeper = g.V.Volume.keeper in
     let behaviour = g.A.Application.behaviour in
     let sides = c.loop.self.sides.items in
     let run = c.loop.invariant.run world m is here in
     let says = now_says keeper behaviour world m c.args.app c.args.instance c.args.op here sides c.loop.self.kept.places c.loop.self.volume c.loop.counter c.args.told.now c.loop.told run
-    c.index.result.now _ c.answered.result
-    (omega (arith, c.requires.known, c.loop.invariant.kept.apps)) c.index.ensures c.answered.ensures in
-    turns_answered behaviour (λ after. Represents c.loop.self after) world c.args.app m c.args.instance c.args.op c.loop.counter _ c.args.told.now c.loop.told run
+    c.is_over.result c.is_over.ensures in
+    turns_over behaviour (λ after. Represents c.loop.self after) world c.args.app m c.args.instance c.args.op c.loop.counter _ c.args.told.now c.loop.told run
     (now_turns keeper behaviour world m c.args.app c.args.instance c.args.op here sides c.loop.self.kept.places c.loop.self.volume c.loop.counter c.args.told.now c.loop.told run)
-    (sym says ∙ c.if-answered.true)
+    (sym says ∙ c.if-is_over.true)
 
 pub returns-in_err-push_turn_if_told-clause-err : goal.returns-in_err-push_turn_if_told-clause-err
 returns-in_err-push_turn_if_told-clause-err g c = on_err_known c.from_residual.result _ (λ world m is here lossless sound.
@@ -50,14 +52,13 @@ returns-in_err-push_turn_if_told-clause-err g c = on_err_known c.from_residual.r
     let turned = c.advance-kind.ensures in
     let run = c.loop.invariant.run world m is here in
     let says = now_says keeper behaviour world m c.args.app c.args.instance c.args.op here sides c.loop.self.kept.places c.loop.self.volume c.loop.counter c.args.told.now c.loop.told run
-    c.index.result.now _ c.answered.result
-    (omega (arith, c.requires.known, c.loop.invariant.kept.apps)) c.index.ensures c.answered.ensures in
+    c.is_over.result c.is_over.ensures in
     let h = turn_happened c.advance-kind.result c.turns.result c.args.instance c.advance-kind.new.replies in
     let first = keeper.condition (volume_of c.args.self.now) in
     turns_stopped behaviour (λ after. Represents new after) world c.args.app m c.args.instance c.args.op (c.loop.counter + 1) c.args.told.now _ first (keeper.condition (volume_of new))
     (made_further keeper behaviour world m c.args.app c.args.instance c.args.op here sides c.loop.self.kept.places c.loop.self.volume c.loop.counter c.args.told.now c.loop.told run
     new.sides.items new.kept.places new.volume
-    c.advance-kind.result c.turns.result c.advance-kind.new.replies turned.made.world turned.made.stands turned.change turned.replies c.turns.ensures c.loop-test.true (sym says ∙ c.if-answered.false))
+    c.advance-kind.result c.turns.result c.advance-kind.new.replies turned.made.world turned.made.stands turned.change turned.replies c.turns.ensures c.loop-test.true (sym says ∙ c.if-is_over.false))
     (told_marked (append_if_told c.loop.told h) first (keeper.condition (volume_of new))
     (sound_more c.loop.told h (c.loop.invariant.sound world m is here sound) (turned.made.sound _ run.stands))
     (run_further c.args.told.now c.loop.told h first (keeper.condition (volume_of c.loop.self)) (keeper.condition (volume_of new))
@@ -73,14 +74,13 @@ loop-preserved g c = record {
       let turned = c.advance-kind.ensures in
       let run = c.loop.invariant.run world m is here in
       let says = now_says keeper behaviour world m c.args.app c.args.instance c.args.op here sides c.loop.self.kept.places c.loop.self.volume c.loop.counter c.args.told.now c.loop.told run
-      c.index.result.now _ c.answered.result
-      (omega (arith, c.requires.known, c.loop.invariant.kept.apps)) c.index.ensures c.answered.ensures in
+      c.is_over.result c.is_over.ensures in
       subst (λ (ts : List Happened). Made keeper behaviour world m c.args.app c.args.instance c.args.op here new.sides.items new.kept.places new.volume (c.loop.counter + 1) c.args.told.now ts)
       (sym c.in_ok-push_turn_if_told.ensures.ok)
       (made_further keeper behaviour world m c.args.app c.args.instance c.args.op here sides c.loop.self.kept.places c.loop.self.volume c.loop.counter c.args.told.now c.loop.told run
       new.sides.items new.kept.places new.volume
       c.advance-kind.result c.turns.result c.advance-kind.new.replies turned.made.world turned.made.stands turned.change turned.replies c.turns.ensures c.loop-test.true
-      (sym says ∙ c.if-answered.false));
+      (sym says ∙ c.if-is_over.false));
   counts =
       let condition = g.V.Volume.keeper.condition in
       let first = condition (volume_of c.args.self.now) in

@@ -1,5 +1,0 @@
-use Rattle.alone.proofs.Answered.{always_answered}
-use Rattle.alone.proofs.answering.call_lines_are_answered.Goals as goal
-
-pub returns : goal.returns
-returns g c = λ host index seed store events marks client call. always_answered g.A.Application.behaviour host index seed store events marks client call
