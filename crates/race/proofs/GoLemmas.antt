@@ -251,8 +251,9 @@ module _ {V A : Type 0} where
             (stands p.client (log_of p) makes.before t.stands.0 makes.others.goes_on makes.others.none_own t.stands.1);
       }
 
-  pub turns_then : (i : ℕ) (p q r : PassView V A) → GoesBy [] p q → TurnsOnce i q r → TurnsOnce i p r
-  turns_then i p q r f x = record { one = x.one; goes = goes_then p q r [] (x.one ∷ []) f x.goes; turn = x.turn; within = x.within }
+  pub turns_then : (i : ℕ) (p q r : PassView V A) → GoesBy [] p q → TurnsNext i q r → TurnsOnce i p r
+  turns_then i p q r f x =
+      record { one = x.turns.one; goes = goes_then p q r [] (x.turns.one ∷ []) f x.turns.goes; turn = x.turns.turn; within = x.turns.within }
 
   -- ---- turns until a reply comes, or the instance waits
 

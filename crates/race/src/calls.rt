@@ -226,6 +226,7 @@ pub(crate) fn try_turn<R: Wait, V: Volume, A: Application>(
 /// # Errors
 ///
 /// As of `try_turn`.
+#[tactic(auto, using(crate::proofs::GoLemmas::turns_then))]
 pub(crate) fn turn<R: Wait, V: Volume, A: Application>(
     rt: &R,
     shared: &SharedTeeOver<V, A>,
