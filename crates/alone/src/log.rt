@@ -116,7 +116,9 @@ impl AppLog {
 
     /// Whether there is no place for a call that brings so many bytes.
     pub fn is_full(&self, bytes: u128) -> bool
+        // No call brings more bytes.
         requires { bytes < 2 ^ 66 }
+        // It is so where the log has all its entries, or the bytes exceed what is left.
         ensures { result ≡ is_full self.now.entries bytes }
     {
         self.len() >= limits::MAX_LOG_ENTRIES
@@ -141,11 +143,15 @@ impl AppLog {
 
     /// Makes room for so many further entries and replies. The log stays, and so does the room that there is.
     pub fn reserve(&mut self, entries: usize, replies: usize) -> Result<(), NoMemory>
+        // The entries stay.
         ensures same { self.new.entries ≡ self.old.entries }
+        // There is room for so many further entries.
         ensures room { OnOk result
             (length self.old.entries + entries ≤ self.new.room) }
+        // There is room for so many further replies.
         ensures reply_room { OnOk result
             (length (replies_in self.old.entries) + replies ≤ self.new.reply_room) }
+        // No room is lost, also where memory lacks.
         ensures kept { (self.old.room ≤ self.new.room)
             × (self.old.reply_room ≤ self.new.reply_room) }
     {
@@ -158,15 +164,22 @@ impl AppLog {
     /// Adds an entry of the client at the end, where there is room for it and its replies, which are moved into the log. It takes
     /// no memory.
     pub fn push(&mut self, client: u8, event: LogEvent, replies: &mut Replies)
+        // There is room for an entry.
         requires room { length self.old.entries < self.old.room }
+        // There is room for its replies.
         requires replies { length (replies_in self.old.entries) + length replies.old
             ≤ self.old.reply_room }
+        // Its bytes fit what the log may hold.
         requires bytes { bytes_of_event (event_by client event)
             ≤ MAX_LOG_BYTES - bytes_in self.old.entries }
+        // The entry stands at the end, with the replies.
         ensures more { self.new.entries
             ≡ self.old.entries ++ entry client (event_by client event) replies.old ∷ [] }
+        // The room for entries is the same.
         ensures room { self.new.room ≡ self.old.room }
+        // So is the room for replies.
         ensures reply_room { self.new.reply_room ≡ self.old.reply_room }
+        // No reply is left in what they came in.
         ensures none { replies.new ≡ [] }
     {
         let added = event.bytes();

@@ -46,7 +46,9 @@ fn param_bytes(param: &Param) -> u128
 
 /// How many bytes the four parameters bring.
 pub fn params_bytes(params: &Params) -> u128
+    // The sum of what each parameter brings.
     ensures value { result ≡ bytes_of_params params.now }
+    // It fits, whatever the parameters are.
     ensures few { result < 2 ^ 66 }
 {
     param_bytes(&params.p0)
@@ -57,7 +59,9 @@ pub fn params_bytes(params: &Params) -> u128
 
 /// How many bytes the parameters of a call bring.
 pub fn call_bytes(call: &Call) -> u128
+    // What its parameters bring, or what it fills into a block.
     ensures value { result ≡ bytes_of_call call.now }
+    // It fits, whatever the call is.
     ensures few { result < 2 ^ 66 }
 {
     match call {

@@ -146,20 +146,25 @@ impl Replies {
 
     /// Adds a reply at the end.
     pub fn push(&mut self, reply: Reply)
+        // There are fewer replies than an event may have.
         requires { length self.old < 24 }
+        // The reply stands at the end.
         ensures { self.new ≡ self.old ++ reply ∷ [] }
     {
         self.items.push(reply);
     }
 
     pub fn as_slice(&self) -> &[Reply]
+        // All replies, in their order.
         ensures { result.now ≡ self.now }
     {
         self.items.as_slice()
     }
 
     pub fn len(&self) -> usize
+        // How many there are.
         ensures value { result ≡ length self.now }
+        // No event has more.
         ensures few { result ≤ REPLIES }
     {
         self.items.len()
@@ -174,15 +179,20 @@ impl Replies {
 
     /// Moves the replies to the end of a list that has room for them. None is left. It takes no memory.
     pub fn move_to(&mut self, into: &mut Vec<Reply>)
+        // The list has room for them.
         requires { vec_len into.old + length self.old ≤ vec_capacity into.old }
+        // They stand at the end of the list.
         ensures items { into.new.items ≡ into.old.items ++ self.old }
+        // The list keeps the room that it has.
         ensures capacity { vec_capacity into.new ≡ vec_capacity into.old }
+        // None is left here.
         ensures none { self.new ≡ [] }
     {
         move_all(&mut self.items, into);
     }
 
     pub fn is_empty(&self) -> bool
+        // It is so where there is none.
         ensures { IsTrue result ↔ (self.now ≡ []) }
     {
         self.items.is_empty()

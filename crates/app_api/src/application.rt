@@ -13,8 +13,11 @@ pub trait Application: Sized + Drop {
 
     /// One step: from what is given to what is asked for.
     fn step(&mut self, alloc: Global, given: Given) -> Result<Ask, NoMemory>
+        // What it asks for is what its behaviour states.
         ensures ask { IfOk result (λ ask. ask ≡ behaviour.asks self.old given) }
+        // So is the state that it has then.
         ensures state { OnOk result (self.new ≡ behaviour.next self.old given) }
+        // Want of memory leaves the state.
         ensures err { OnErr result (self.new ≡ self.old) };
 
     /// Another value of the same state.

@@ -20,6 +20,7 @@ impl Default for Login {
     ghost use Rattle.std.specs.Prelude.{◌≡◌};
 
     fn default() -> Login
+        // A login that nobody states is the public one.
         ensures { result ≡ Login.Public }
     {
         Login::Public

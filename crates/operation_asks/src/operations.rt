@@ -56,10 +56,13 @@ impl Operations {
         instance: u8,
         ask: Ask,
     ) -> Result<CryptoOutcome, NoMemory>
+        // The outcome is that of the ask, in the state that there was.
         ensures told { IfOk result (λ told.
             told ≡ told_by (operation_resolution (state_of self.old) instance ask)) }
+        // So is the state that it leaves.
         ensures left { OnOk result (state_of self.new
             ≡ left_by (state_of self.old) (operation_resolution (state_of self.old) instance ask)) }
+        // Want of memory leaves the state.
         ensures want { OnErr result (state_of self.new ≡ state_of self.old) }
     {
         let asked = Did::Asked {
@@ -75,7 +78,9 @@ impl Operations {
 
     /// Serves the rest of an ask for a key, over what the object gives. It takes no memory.
     pub fn set_key(&mut self, instance: u8, op: u32, given: KeyLook) -> Outcome
+        // The outcome is that of a key that is set, over what the object gives.
         ensures told { result ≡ (key_effect (state_of self.old) instance op given).told }
+        // So is the state that it leaves.
         ensures left { state_of self.new
             ≡ (key_effect (state_of self.old) instance op given).after }
     {
@@ -96,9 +101,12 @@ impl Operations {
     ///
     /// NoMemory changes nothing, and takes no word.
     pub fn draw(&mut self, alloc: Global, count: u32) -> Result<Bytes, NoMemory>
+        // The bytes are the next of the stream.
         ensures bytes { IfOk result (λ bytes.
             bytes ≡ random_from (state_of self.old).random count) }
+        // The stream stands after them.
         ensures moved { OnOk result (state_of self.new ≡ after_draw (state_of self.old) count) }
+        // Want of memory leaves the state, and takes no word of the stream.
         ensures want { OnErr result (state_of self.new ≡ state_of self.old) }
     {
         let bytes = self.crypto.draw(alloc, count)?;
