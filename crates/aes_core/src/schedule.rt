@@ -17,6 +17,7 @@ use crate::tables::ROUND_CONSTANTS;
 pub fn expand(key: &[u8]) -> Result<Key, WrongKeyLength>
     ensures expanded { IsOk result ↔ IsTrue (is_key_length (length key.now)) }
     ensures bytes { IfOk result (λ k. key_bytes k ≡ key.now) }
+    // A refusal gives the length of the key.
     ensures refused { IfErr result (λ e. e.0 ≡ length key.now) }
 {
     match key.len() {

@@ -23,6 +23,7 @@ use seal::Keys;
 ///
 /// A call of the board failed. The header's block may then read as anything.
 pub fn lay<B: Board>(board: &mut B, header: &Header) -> Result<(), BoardFailed>
+    // The board has blocks for both headers and both gates.
     requires { 4 ≤ (B.view board.old).size }
     ensures calls { CallRun (is_ok result) (B.view board.old) (B.view board.new) }
     ensures writes { (B.view board.new).writes ≡ up_to_limit ((B.view board.old).writes + 1) }

@@ -33,6 +33,7 @@ impl Default for SessionState {
     ghost use Rattle.std.specs.Prelude.{◌≡◌};
 
     fn default() -> SessionState
+        // It is opening.
         ensures { result ≡ SessionState.Opening }
     {
         SessionState::Opening

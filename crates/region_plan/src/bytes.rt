@@ -7,6 +7,7 @@ ghost use Rattle.region_plan.specs.Parts.{part, with_bytes_at, are_zero};
 
 /// The number that four bytes from a place on are.
 pub fn number_at(bytes: &[u8], at: usize) -> u32
+    // The four bytes lie within the bytes.
     requires { at + 4 ≤ length bytes.now }
     ensures { result ≡ from_le_bytes w32 (part at 4 bytes.now) }
 {

@@ -154,8 +154,10 @@ impl Directory {
         count: u32,
     ) -> Result<Bytes, StoreAnswer>
         requires fits { (layout self.now.form).leaves ≤ L.keeper.leaves }
+        // What the leaves are read from isn't lost.
         requires works { (L.keeper.condition from.old).lost ≡ false }
         requires bounded { IsBounded self.now }
+        // No more is asked for than an ask may.
         requires count { count ≤ MAX_ASK_BYTES }
         ensures reads { ReadsFrom L.keeper L.region self.now
             (λ store. read_at store id.now start count) (IsPart count) result from.old from.new }
@@ -195,6 +197,7 @@ pub fn content<L: LeafSource>(
 ) -> Result<Bytes, StoreAnswer>
     requires fits { (layout form).leaves ≤ L.keeper.leaves }
     requires id { IsIdentifier id.now }
+    // No more is asked for than an ask may.
     requires count { count ≤ MAX_ASK_BYTES }
     ensures reads { ReadsRegion L.keeper L.region (layout form)
         (λ store. read_at store id.now start count) (IsPart count) result from.old from.new }

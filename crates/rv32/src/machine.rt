@@ -276,7 +276,9 @@ impl Machine {
     #[inline(always)]
     #[tactic(auto, unfolding(crate::specs::Machine::step))]
     pub fn step(&mut self) -> Option<Halt>
+        // The machine is that of the definition after one instruction.
         ensures machine { self.new ≡ (isa.step self.old).machine }
+        // It stops as the definition does.
         ensures stop { result ≡ (isa.step self.old).stop }
     {
         match self.next_word() {
@@ -290,7 +292,9 @@ impl Machine {
 
     /// So many instructions, or fewer where one stops the machine.
     pub fn run(&mut self, budget: u32) -> Halt
+        // The machine is that of the definition after at most so many instructions.
         ensures machine { self.new ≡ (isa.run budget self.old).machine }
+        // It stops as the definition does.
         ensures stop { result ≡ (isa.run budget self.old).stop }
     {
         for _ in 0..budget {

@@ -57,6 +57,7 @@ impl Memory {
     }
 
     pub fn is_empty(&self) -> bool
+        // It is true exactly where there is no byte.
         ensures { IsTrue result ↔ (length self.now ≡ 0) }
     {
         self.items.is_empty()

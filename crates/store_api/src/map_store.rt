@@ -242,6 +242,7 @@ impl AppStore for MapStore {
 
     fn read(&mut self, id: &[u8], from: u32, count: u32) -> Result<Bytes, StoreAnswer>
         requires id { IsIdentifier id.now }
+        // No more is asked for than an ask may.
         requires count { count ≤ MAX_ASK_BYTES }
         ensures reads { Reads map_keeper (λ store. read_at store id.now from count) (IsPart count)
             result self.old self.new }

@@ -25,6 +25,7 @@ impl Object {
     /// What is told of it.
     pub fn facts(&self) -> Facts
         requires secret { IsSecret self.now.secret }
+        // The content has no more bytes than an object may have.
         requires content { length self.now.content ≤ MAX_CONTENT_BYTES }
         ensures { result ≡ facts_of self.now }
     {

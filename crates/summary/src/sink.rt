@@ -68,7 +68,9 @@ impl Summary {
 
     /// Why it took no more, if so.
     pub fn cut(&self) -> Option<Cut>
+        // It is what the sink noted.
         ensures cut { result ≡ self.now.cut }
+        // It is why the sink took no more, by the text that it has and the line that is open.
         ensures at { IsCutAt self.now.text self.now.line result }
     {
         self.cut

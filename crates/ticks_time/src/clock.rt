@@ -63,6 +63,7 @@ impl Clock {
 
     /// So many more ticks.
     pub fn tick(&mut self, ticks: u32)
+        // The clock stays below 2^63 ticks.
         requires { self.old.ticks + ticks < 2 ^ 63 }
         ensures { self.new ≡ with_ticks self.old ticks }
     {
@@ -99,6 +100,7 @@ impl Clock {
 
     /// Sets the application's own time (TEE Internal Core API 1.3, section 7.2.4).
     pub fn set(&mut self, time: Time)
+        // The milliseconds of the time are fewer than 1,000.
         requires { time.millis < MILLIS }
         ensures { self.new ≡ with_own self.old time }
     {
