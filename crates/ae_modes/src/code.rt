@@ -81,7 +81,7 @@ impl Cmac {
         is_same(tag, &code)
     }
 
-    // The vector after the first blocks of what waits and the bytes behind it.
+    // The vector after the first blocks of what waits and the bytes after it.
     fn vector_after(&self, bytes: &[u8], blocks: usize) -> [u8; 16]
         requires { 16 * blocks ≤ self.now.waiting.count + length bytes.now }
         ensures { (key m : List ℕ) → HoldsMessage self.now key m

@@ -96,7 +96,7 @@ fn first_words(key: &[u8]) -> [u32; 60]
     words
 }
 
-/// The words of the round keys, and zeros behind them.
+/// The words of the round keys, and zeros after them.
 fn schedule(key: &[u8]) -> [u32; 60]
     requires { IsTrue (is_key_length (length key.now)) }
     ensures { take (4 * (length key.now / 4 + 7)) result ≡ round_key_words key.now }

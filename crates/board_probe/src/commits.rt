@@ -7,7 +7,7 @@ use std::alloc::Global;
 use store_api::{Leaf, Leaves, Volume};
 use tree_volume::TreeVolume;
 
-/// The block of a round: the first behind the two slots, which no volume uses.
+/// The block of a round: the first after the two slots, which no volume uses.
 pub const UNUSED: u64 = 4;
 
 /// Opens the volume of a board; a blank board is formatted.

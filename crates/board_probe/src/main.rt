@@ -145,7 +145,7 @@ fn hold<R: Input + Print>(rt: &R) -> Result<()> {
     Ok(())
 }
 
-/// The work that a word and the number behind it ask for.
+/// The work that a word and the number after it ask for.
 fn work_of(word: &str, count: Option<u32>) -> Option<Work> {
     match word {
         "look" => Some(Work::Look),

@@ -79,7 +79,7 @@ impl BlockList {
         Some(place)
     }
 
-    /// Lists a block behind the others.
+    /// Lists a block after the others.
     pub fn add(&mut self, block: usize)
         requires list { IsBlockList self.old }
         requires within { block < self.old.count }

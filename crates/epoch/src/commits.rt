@@ -131,7 +131,7 @@ pub fn commit<B: Board, C: Change>(
     // at Ok the counter is the new sequence, whatever the image
     ensures counter { B.honest board.old → IsSettledAt sequence (B.view board.old).state
         → OnOk result (IsSettledAt (sequence + 1) (B.view board.new).state) }
-    // behind the slots what the change never writes stays, at every moment too
+    // after the slots, what the change never writes stays, at every moment too
     ensures honest { B.honest board.old → B.honest board.new
         × StaysAlone (λ k. (3 < k) × C.untouched k) (B.view board.old) (B.view board.new) }
     ensures commits { B.honest board.old → (before : Held)

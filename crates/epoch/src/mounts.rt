@@ -51,14 +51,14 @@ pub trait BoardVolume<B: Board>: Volume + Sized {
         ensures fresh { IfOk result (λ v. (Self.keeper.condition v).lost ≡ false) }
         ensures calls { IfOk result (λ v. CallRun true (B.view board) (B.view (board_of v))) }
         ensures back { IfErr result (λ u. HandsBack u.why (B.view board) (B.view u.board)) }
-        // behind the slots what it never writes stays, at every moment too
+        // after the slots, what it never writes stays, at every moment too
         ensures honest { B.honest board → IfOk result (λ v. B.honest (board_of v)
             × OpensHonestly (λ k. (3 < k) × untouched k) (Self.keeper.held v).sequence
             (B.view board) (B.view (board_of v))) }
         ensures honest_back { B.honest board → IfErr result (λ u. B.honest u.board
             × HandsBackByRule form (λ k. (3 < k) × untouched k) u.why
             (B.view board) (B.view u.board)) }
-        // whatever the board: by the rule over what it tells, at some counter; what is refused of the leaves behind the
+        // whatever the board: by the rule over what it tells, at some counter; what is refused of the leaves under the
         // header is by what the board that is handed back tells
         ensures rule { IsTrue B.tells_reads → (counter : ℕ)
             × IfErr result (λ u. IsRefusalOver form (B.view board)

@@ -161,7 +161,7 @@ pub(crate) fn read_in<V: Volume>(
     answer
 }
 
-/// The next object behind the last one.
+/// The next object after the last one.
 pub(crate) fn next_in<V: Volume>(
     alloc: Global,
     region: &mut Region<'_, V>,

@@ -16,7 +16,7 @@ pub fn number_at(bytes: &[u8], at: usize) -> u32
     u32::from_le_bytes(piece)
 }
 
-/// Whether all bytes are zero. It goes on behind one that isn't, since many are looked at at a time so.
+/// Whether all bytes are zero. It goes on after one that isn't, since many are looked at at a time so.
 pub fn all_zero(bytes: &[u8]) -> bool
     ensures { result ≡ are_zero bytes.now }
 {

@@ -39,7 +39,7 @@ fn linked_leaf(links: &[u16], index: u32) -> Option<u16>
     if link == 0 { None } else { Some(link - 1) }
 }
 
-/// Whether a leaf has zeros behind so many bytes.
+/// Whether a leaf has zeros after so many bytes.
 fn is_zero_behind(block: &[u8; BLOCK_BYTES], used: usize) -> bool
     ensures { result ≡ are_zero (drop used (take BLOCK_BYTES block.now)) }
 {

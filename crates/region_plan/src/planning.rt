@@ -85,7 +85,7 @@ fn changed_map(alloc: Global, old: &Map, map: &Map) -> Result<Leaves, NoMemory>
     Ok(leaves)
 }
 
-/// The bytes of a leaf behind the map after a change of an inode's object, if they change: the map is this one then, and the
+/// The bytes of a leaf after the map after a change of an inode's object, if they change: the map is this one then, and the
 /// inode's leaf has these bytes, if there are some.
 fn changed_leaf<L: LeafSource>(
     from: &mut L,

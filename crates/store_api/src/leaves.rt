@@ -89,7 +89,7 @@ impl Leaves {
         }
     }
 
-    /// One more leaf, behind the others. Want of memory changes nothing.
+    /// One more leaf, after the others. Want of memory changes nothing.
     pub fn push(&mut self, leaf: Leaf) -> Result<(), NoMemory>
         // Its number is above those of all others.
         requires { IsTrue (is_above_all self.old leaf.number) }

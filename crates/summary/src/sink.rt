@@ -22,13 +22,13 @@ impl From<NoMemory> for Cut {
     }
 }
 
-/// A sink that sums up what is written. It takes no line about the board, and nothing behind one.
+/// A sink that sums up what is written. It takes no line about the board, and nothing after one.
 #[derive(Drop)]
 pub struct Summary {
     alloc: Global,
     /// Of all whole lines.
     digester: Digester,
-    /// What stands behind the last line feed.
+    /// What stands after the last line feed.
     line: Vec<u8>,
     codes: Codes,
     text: Told,

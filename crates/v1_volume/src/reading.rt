@@ -55,7 +55,7 @@ fn verify<B: Board>(board: &mut B, keys: &Keys, root: &TreeEntry) -> Result<(), 
     }
 }
 
-/// Reads the leaves of a group behind those that were read, verified.
+/// Reads the leaves of a group after those that were read, verified.
 fn read_group<B: Board>(
     board: &mut B,
     keys: &Keys,
