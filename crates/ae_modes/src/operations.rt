@@ -36,7 +36,7 @@ impl Gcm {
         self.tag_len
     }
 
-    /// Whether the message may have so many bytes more.
+    /// Whether the message may have this many bytes more.
     pub fn holds(&self, more: usize) -> bool
         // It asks for less than 2^32 bytes.
         requires { more < 2 ^ 32 }
@@ -81,7 +81,7 @@ impl Gcm {
     /// # Errors
     ///
     /// `TooLong` where the message would be longer than 2^36 - 32 bytes; else `ShortBuffer` where `output` has less
-    /// room than the input has bytes, which are told. Nothing changes.
+    /// room than the input has bytes, which are reported. Nothing changes.
     pub fn update(&mut self, input: &[u8], output: &mut [u8]) -> Result<usize, AeAnswer>
         // For each message that the value represents: the answer is that of the definition, by the message and the room of the output.
         ensures answer { (m : Message) → Represents self.old m
@@ -109,7 +109,7 @@ impl Gcm {
     ///
     /// # Errors
     ///
-    /// As `update`; else `ShortBuffer` where `tag` has less room than the tag has bytes, which are told. Nothing
+    /// As `update`; else `ShortBuffer` where `tag` has less room than the tag has bytes, which are reported. Nothing
     /// changes.
     pub fn seal(
         &mut self,
@@ -252,7 +252,7 @@ impl Gcm {
         self.text_len += cipher.len();
     }
 
-    // Whether the message begins with so many bytes more.
+    // Whether the message begins with this many bytes more.
     fn begins_with(&self, more: usize) -> bool
         ensures { result ≡ (self.now.text_len == 0 && nat_lt 0 more) }
     {

@@ -43,7 +43,7 @@ impl Stream {
     ///
     /// # Errors
     ///
-    /// `ShortBuffer` where `output` has less room than is needed, which is told; nothing changes.
+    /// `ShortBuffer` where `output` has less room than is needed, which is reported; nothing changes.
     pub fn update(&mut self, input: &[u8], output: &mut [u8]) -> Result<usize, ModeAnswer>
         // One call takes at most as many bytes as an ask may have.
         requires { length input.now ≤ 524288 }

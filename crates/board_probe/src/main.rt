@@ -129,7 +129,7 @@ fn look<R: Print, B: Board>(rt: &R, board: &mut B) -> Result<()> {
     Ok(())
 }
 
-/// Makes so many rounds, and tells the number of each.
+/// Makes this many rounds, and tells the number of each.
 fn make_rounds<R: Print, B: Board>(rt: &R, board: &mut B, count: u32) -> Result<()> {
     for _ in 0..count {
         let round = make_round(board)?;

@@ -36,7 +36,7 @@ pub struct MemBoard {
 impl MemBoard {
     ghost use Rattle.boards.specs.MemoryBoard.{view_of, memory_of};
 
-    /// A board of so many zero blocks, with the counter 0.
+    /// A board of this many zero blocks, with the counter 0.
     pub fn blank(alloc: Global, key: [u8; 32], blocks: u64) -> Result<MemBoard, NoMemory>
         ensures new { IfOk result (λ b. IsNew key blocks 0 (memory_of b)) }
         // Each of the blocks reads as zeros.

@@ -136,7 +136,7 @@ pub trait BoardVolume<B: Board>: Volume + Sized {
             → OpensAfterPower Self.keeper form (B.view (board_of self.old))
             (B.view (board_of self.new)) result self.old self.new };
 
-    /// Lets so many calls of the board pass, as the board's `fuse` does. It makes no other call.
+    /// Lets this many calls of the board pass, as the board's `fuse` does. It makes no other call.
     fn fuse(&mut self, calls: u32)
         // The root is as it was.
         ensures root { root self.new ≡ root self.old }

@@ -94,7 +94,7 @@ pub fn flip<B: Board>(board: &mut B, slot: u8) -> Result<u64, BoardFailed>
         ≡ opening_of knows (B.view board.old).key (B.view board.old).state.reads n)
         ⊎ (outcome_opening knows (B.view board.old).key c
         ≡ Ok (Some (record { header = header; slot = slot })))) }
-    // at Ok it opens to that header, at the counter that was told
+    // at Ok it opens to that header, at the counter that was reported
     ensures opened { B.honest board.old → IfOk result (λ m.
         (knows : ℕ → Bool) (n : ℕ) (header : HeaderValue)
         → IsLaid knows (B.view board.old).key slot n header (B.view board.old).state

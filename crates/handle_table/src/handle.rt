@@ -1,4 +1,4 @@
-//! Handles as they are kept, and what is told of them.
+//! Handles as they are kept, and what is reported of them.
 
 use share_rules::Share;
 use std::mem;

@@ -74,7 +74,7 @@ impl Session {
         }
     }
 
-    /// What is told of it.
+    /// What is reported of it.
     pub fn facts(&self) -> SessionFacts
         ensures { result ≡ facts_of self.now }
     {

@@ -1,4 +1,4 @@
-//! Operations as they are kept, and what is told of them.
+//! Operations as they are kept, and what is reported of them.
 
 ghost use Rattle.std.specs.Prelude.{◌≡◌};
 ghost use Rattle.op_queue.specs.Queue as queue;
@@ -98,7 +98,7 @@ impl Operation {
         self.client == client && self.references.name(block)
     }
 
-    /// What is told of it.
+    /// What is reported of it.
     pub fn facts(&self) -> OpFacts
         ensures { result ≡ facts_of self.now }
     {
@@ -168,7 +168,7 @@ pub struct Begun {
     pub call: Call,
 }
 
-/// What is told of an operation.
+/// What is reported of an operation.
 #[derive(Clone, Copy, Debug, PartialEq, Eq)]
 pub struct OpFacts {
     pub client: u8,

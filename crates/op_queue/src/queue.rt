@@ -131,7 +131,7 @@ impl OpQueue {
         self.operations[index].start()
     }
 
-    /// What is told of the operation; none exactly where it isn't unanswered.
+    /// What is reported of the operation; none exactly where it isn't unanswered.
     pub fn facts(&self, op: u64) -> Option<OpFacts>
         ensures { result ≡ option_map facts_of (operation_of self.now op) }
     {

@@ -39,7 +39,7 @@ fn linked_leaf(links: &[u16], index: u32) -> Option<u16>
     if link == 0 { None } else { Some(link - 1) }
 }
 
-/// Whether a leaf has zeros after so many bytes.
+/// Whether a leaf has zeros after this many bytes.
 fn is_zero_behind(block: &[u8; BLOCK_BYTES], used: usize) -> bool
     ensures { result ≡ are_zero (drop used (take BLOCK_BYTES block.now)) }
 {
@@ -144,7 +144,7 @@ fn read_between<L: LeafSource>(
 }
 
 impl Directory {
-    /// At most so many bytes of an object's content, from a place on. `NotFound` exactly where there is no such object.
+    /// At most this many bytes of an object's content, from a place on. `NotFound` exactly where there is no such object.
     pub fn content<L: LeafSource>(
         &self,
         alloc: Global,
@@ -186,7 +186,7 @@ impl Directory {
     }
 }
 
-/// At most so many bytes of an object's content, from a place on. `NotFound` exactly where there is no such object.
+/// At most this many bytes of an object's content, from a place on. `NotFound` exactly where there is no such object.
 pub fn content<L: LeafSource>(
     alloc: Global,
     from: &mut L,

@@ -30,7 +30,7 @@ use store_api::{Leaf, Leaves, StoreAnswer};
 use tee_base::NoMemory;
 use tee_base::limits::BLOCK_BYTES;
 
-/// How many leaves an object with so many bytes of content takes.
+/// How many leaves an object with this many bytes of content takes.
 pub fn cost(length: u32) -> u32
     ensures { result ≡ blocks_for length }
 {

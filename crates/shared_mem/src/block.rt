@@ -59,7 +59,7 @@ impl Block {
         self.client == client && self.number == number
     }
 
-    /// Whether so many bytes from this place on are within it.
+    /// Whether this many bytes from this place on are within it.
     pub fn holds(&self, at: u32, count: usize) -> bool
         // The end of these bytes is a number that fits.
         requires { at + count < 2 ^ 64 }
@@ -113,7 +113,7 @@ impl Block {
         }
     }
 
-    /// Whether a reference fits, has an output, and has so many bytes.
+    /// Whether a reference fits, has an output, and has this many bytes.
     pub fn takes(&self, reference: &Reference, count: usize) -> bool
         ensures { result ≡ (fits self.now reference.now
             && (has_output (direction_in self.now reference.now)

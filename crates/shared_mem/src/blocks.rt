@@ -60,7 +60,7 @@ impl Blocks {
         let _ = self.items.len();
     }
 
-    /// Shares a block of so many zeros, with memory flags 1 for input, 2 for output, 3 for both.
+    /// Shares a block of this many zeros, with memory flags 1 for input, 2 for output, 3 for both.
     ///
     /// # Errors
     ///
@@ -264,7 +264,7 @@ impl Blocks {
         );
     }
 
-    /// Whether a reference takes so many bytes as output.
+    /// Whether a reference takes this many bytes as output.
     fn takes(&self, client: u8, reference: &Reference, count: usize) -> bool
         ensures { (bytes : List ℕ) → length bytes ≡ count
             → result ≡ takes_bytes (check_of self.now client reference.now) reference.now bytes }

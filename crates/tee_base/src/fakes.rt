@@ -1,4 +1,4 @@
-//! Sources and sinks in memory, some of whose calls fail as they are told.
+//! Sources and sinks in memory, some of whose calls fail by plan.
 
 ghost use Rattle.std.specs.Prelude.{◌≡◌, ◌<◌, ◌≤◌, ◌↔◌, ◌-◌, ◌^◌, ◌++◌, [], List, ℕ, Some, IfOk, IsErr, OnErr, Contains, is_err, length, take, drop};
 ghost use Rattle.std.specs.Io.KnownBytes.{ReadConsumes, WriteAppends};
@@ -43,7 +43,7 @@ impl Schedule {
 
     /// Counts the call that begins now, and says whether it fails.
     pub fn fails_now(&mut self) -> bool
-        // It fails exactly where the number of this call is among those that were told to fail.
+        // It fails exactly where the number of this call is among those that are to fail.
         ensures fails { IsTrue result ↔ Contains self.old.failing self.old.calls }
         // The plan counts this call, and the fault where it failed.
         ensures after { self.new ≡ plan_after_call result self.old }
@@ -89,7 +89,7 @@ fn copy_front(from: &[u8], to: &mut [u8]) -> usize
     count
 }
 
-/// A source in memory: it gives its bytes, and fails at the calls that it was told.
+/// A source in memory: it gives its bytes, and fails at the calls that were named.
 #[derive(Debug, Drop)]
 pub struct MemSource {
     bytes: Bytes,
@@ -133,7 +133,7 @@ impl Source for MemSource {
 
     ghost just_failed = { λ s. HasJustFailed s.plan };
 
-    /// Besides, it fails exactly at the calls that it was told, and counts this call.
+    /// Besides, it fails exactly at the calls that were named, and counts this call.
     fn read(&mut self, into: &mut [u8]) -> Result<usize, SourceFailed>
         // Under Ok no more bytes came than there is room for.
         ensures room { IfOk result (λ n. n ≤ length into.old) }
@@ -145,7 +145,7 @@ impl Source for MemSource {
         ensures cause { OnErr result (Rose self.old.plan.faults self.new.plan.faults) }
         // The count of faults never falls.
         ensures later { self.old.plan.faults ≤ self.new.plan.faults }
-        // It fails exactly where the number of this call is among those that were told to fail.
+        // It fails exactly where the number of this call is among those that are to fail.
         ensures fails { IsErr result ↔ Contains self.old.plan.failing self.old.plan.calls }
         // The plan counts this call, and the fault where it failed.
         ensures plan { self.new.plan ≡ plan_after_call (is_err result) self.old.plan }
@@ -163,7 +163,7 @@ impl Source for MemSource {
     }
 }
 
-/// A sink in memory: it keeps what is written, and fails at the calls that it was told.
+/// A sink in memory: it keeps what is written, and fails at the calls that were named.
 #[derive(Debug, Drop)]
 pub struct MemSink {
     bytes: Vec<u8>,
@@ -219,7 +219,7 @@ impl Sink for MemSink {
         ensures cause { OnErr result (Rose self.old.plan.faults self.new.plan.faults) }
         // The count of faults never falls.
         ensures later { self.old.plan.faults ≤ self.new.plan.faults }
-        // It fails where the number of this call is among those that were told to fail.
+        // It fails where the number of this call is among those that are to fail.
         ensures fails { Contains self.old.plan.failing self.old.plan.calls → IsErr result }
         // Under Ok the whole piece was taken.
         ensures whole { IfOk result (λ n. n ≡ length piece.now) }

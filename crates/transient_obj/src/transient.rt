@@ -28,7 +28,7 @@ impl Transient {
     ghost use Rattle.std.specs.Prelude.{◌≡◌, is_ok, is_some, if◌then◌else◌, option_copied};
     ghost use Rattle.transient_obj.specs.Keys.{IsKey, allocate_answer, populate_answer, key_with_secret, without_secret, copy_answer, with_secret_of, with_usages};
 
-    /// A new key of this kind, with room for a secret of so many bits, without one and with all usages.
+    /// A new key of this kind, with room for a secret of this many bits, without one and with all usages.
     ///
     /// # Errors
     ///

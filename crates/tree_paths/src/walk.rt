@@ -67,7 +67,7 @@ fn load_right<B: Board, L: Layout>(
     }
 }
 
-/// Verifies a place under its entry, and then all that is under it over so many levels, and gives how many places these
+/// Verifies a place under its entry, and then all that is under it over this many levels, and gives how many places these
 /// are. What an entry of sequence 0 names is left out.
 ///
 /// # Errors

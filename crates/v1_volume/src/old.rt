@@ -65,7 +65,7 @@ impl OldRegion {
     }
 }
 
-/// Reads so many leaves, in ascending order.
+/// Reads this many leaves, in ascending order.
 fn read_leaves<L: LeafSource>(
     from: &mut L,
     leaves: &mut Vec<[u8; BLOCK_BYTES]>,
