@@ -383,3 +383,9 @@ def calls_of_file(path, names):
 def calls_of(crate):
     """The public calls of a crate, file after file."""
     return [call for path, names in exported(crate).items() for call in calls_of_file(path, names)]
+
+
+def want_of_memory():
+    """Each public call whose answer can be want of memory, with the names of the clauses that say what it leaves then."""
+    rows = [line.partition(': ') for line in read('.ci/want-of-memory').split('\n') if line and line[0] != '#']
+    return {call: clauses.split(', ') for call, _, clauses in rows}

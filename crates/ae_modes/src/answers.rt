@@ -12,7 +12,7 @@ pub enum AeWay {
 /// Why a call did not do what it was asked.
 #[derive(Clone, Copy, Debug, PartialEq, Eq, Error)]
 pub enum AeAnswer {
-    /// The tag would have a number of bits that is none of 96, 104, 112, 120 and 128, which is told.
+    /// The tag would have a number of bits that is none of 96, 104, 112, 120 and 128, which is reported.
     #[error("a tag has 96, 104, 112, 120 or 128 bits, and this one would have {0}")]
     WrongTag(u32),
     /// The nonce is empty.
@@ -24,7 +24,7 @@ pub enum AeAnswer {
     /// The associated data or the message would be longer than is allowed.
     #[error("more bytes than are allowed")]
     TooLong,
-    /// A buffer has less room than the bytes that are needed, which are told.
+    /// A buffer has less room than the bytes that are needed, which are reported.
     #[error("a buffer needs {0} bytes")]
     ShortBuffer(usize),
     /// The tag isn't that of the message.

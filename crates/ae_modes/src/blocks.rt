@@ -22,7 +22,7 @@ impl Waiting {
     ghost use Rattle.aes_modes.specs.Modes.{block_at};
     ghost use Rattle.ae_modes.specs.Waiting.{waiting_bytes};
 
-    /// Block `i` of what waits and the input behind it.
+    /// Block `i` of what waits and the input after it.
     #[inline(always)]
     pub(crate) fn block(&self, input: &[u8], i: usize) -> [u8; 16]
         requires { 16 * i + 16 ≤ self.now.count + length input.now }
@@ -37,7 +37,7 @@ impl Waiting {
         }
     }
 
-    /// What waits behind the first blocks of what waited and the input behind it.
+    /// What waits after the first blocks of what waited and of the input after it.
     pub(crate) fn after(&self, input: &[u8], blocks: usize) -> Waiting
         requires within { 16 * blocks ≤ self.now.count + length input.now }
         requires part { self.now.count + length input.now ≤ 16 * blocks + 16 }

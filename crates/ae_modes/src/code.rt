@@ -53,7 +53,9 @@ impl Cmac {
 
     /// The code of the message. The value is then as at its start.
     pub fn finish(&mut self) -> [u8; 16]
+        // For each key and message that the value holds: the answer is the code of that message.
         ensures code { (key m : List ℕ) → HoldsMessage self.old key m → result ≡ cmac key m }
+        // For each key and message that the value holds: it then holds the empty message under that key.
         ensures started { (key m : List ℕ) → HoldsMessage self.old key m
             → HoldsMessage self.new key [] }
     {
@@ -68,8 +70,10 @@ impl Cmac {
     /// Whether these are the bytes of the message's code, all of them and no more. It looks at every byte before it
     /// answers. The value is then as at its start.
     pub fn compare(&mut self, tag: &[u8]) -> bool
+        // For each key and message that the value holds: the answer is true exactly where these bytes are its code.
         ensures same { (key m : List ℕ) → HoldsMessage self.old key m
             → (IsTrue result ↔ (tag.now ≡ cmac key m)) }
+        // For each key and message that the value holds: it then holds the empty message under that key.
         ensures started { (key m : List ℕ) → HoldsMessage self.old key m
             → HoldsMessage self.new key [] }
     {
@@ -77,7 +81,7 @@ impl Cmac {
         is_same(tag, &code)
     }
 
-    // The vector after the first blocks of what waits and the bytes behind it.
+    // The vector after the first blocks of what waits and the bytes after it.
     fn vector_after(&self, bytes: &[u8], blocks: usize) -> [u8; 16]
         requires { 16 * blocks ≤ self.now.waiting.count + length bytes.now }
         ensures { (key m : List ℕ) → HoldsMessage self.now key m

@@ -7,7 +7,7 @@ use crate::blocks::{none_waiting, number_of_block};
 use crate::tables::{Tables, tables_of};
 use crate::waiting::Waiting;
 
-/// The sum of the whole blocks so far, and the bytes behind them.
+/// The sum of the whole blocks so far, and the bytes after them.
 #[derive(Clone, Copy)]
 pub(crate) struct Ghash {
     pub(crate) waiting: Waiting,
@@ -41,7 +41,7 @@ impl Ghash {
         self.waiting = self.waiting.after(bytes, blocks);
     }
 
-    // The sum after the first blocks of what waits and the bytes behind it.
+    // The sum after the first blocks of what waits and the bytes after it.
     fn sum_after(&self, bytes: &[u8], blocks: usize) -> u128
         requires { 16 * blocks ≤ self.now.waiting.count + length bytes.now }
         ensures { (h : ℕ) (x : List ℕ) → Absorbs self.now h x

@@ -28,15 +28,19 @@ impl Gcm {
 
     /// How many bytes its tag has, no more than 16.
     pub fn tag_len(&self) -> usize
+        // It is the length of the tag of each message that the value represents.
         ensures own { (m : Message) → Represents self.now m → result ≡ tag_len m }
+        // A tag has at most 16 bytes.
         ensures few { result ≤ 16 }
     {
         self.tag_len
     }
 
-    /// Whether the message may have so many bytes more.
+    /// Whether the message may have this many bytes more.
     pub fn holds(&self, more: usize) -> bool
+        // It asks for less than 2^32 bytes.
         requires { more < 2 ^ 32 }
+        // It is true exactly where a message that the value represents has, with these, at most 2^36 - 32 bytes.
         ensures { (m : Message) → Represents self.now m
             → result ≡ not (nat_lt (2 ^ 36 - 32) (length m.message + more)) }
     {
@@ -50,11 +54,15 @@ impl Gcm {
     /// `Late` where a byte of the message was given; else `TooLong` where all associated data would be more than 2^32
     /// bytes. Nothing changes.
     pub fn aad(&mut self, bytes: &[u8]) -> Result<(), AeAnswer>
+        // For each message that the value represents: the answer is that of the definition, by what the message has so far.
         ensures answer { (m : Message) → Represents self.old m
             → result ≡ aad_answer m (length bytes.now) }
+        // Under Ok the value represents that message with these bytes as further associated data.
         ensures taken { (m : Message) → Represents self.old m
             → OnOk result (Represents self.new (with_aad m bytes.now)) }
+        // Whether it encrypts or decrypts stays.
         ensures way_kept { self.new.way ≡ self.old.way }
+        // Under Err the value is as it was.
         ensures unchanged { OnErr result (self.new ≡ self.old) }
     {
         if self.text_len > 0 {
@@ -73,16 +81,22 @@ impl Gcm {
     /// # Errors
     ///
     /// `TooLong` where the message would be longer than 2^36 - 32 bytes; else `ShortBuffer` where `output` has less
-    /// room than the input has bytes, which are told. Nothing changes.
+    /// room than the input has bytes, which are reported. Nothing changes.
     pub fn update(&mut self, input: &[u8], output: &mut [u8]) -> Result<usize, AeAnswer>
+        // For each message that the value represents: the answer is that of the definition, by the message and the room of the output.
         ensures answer { (m : Message) → Represents self.old m
             → result ≡ update_answer m (length input.now) (length output.old) }
+        // Under Ok(n) the first n bytes of the output continue the text of that message to the text of the longer one.
         ensures text { (m : Message) → Represents self.old m
             → IfOk result (λ n. text_of (with_more m input.now) ≡ text_of m ++ take n output.new) }
+        // Under Ok the value represents that message with these bytes after it.
         ensures taken { (m : Message) → Represents self.old m
             → OnOk result (Represents self.new (with_more m input.now)) }
+        // Whether it encrypts or decrypts stays.
         ensures way_kept { self.new.way ≡ self.old.way }
+        // Under Ok(n) the output after its first n bytes is as it was.
         ensures rest { IfOk result (λ n. drop n output.new ≡ drop n output.old) }
+        // Under Err the value and the output are as they were.
         ensures unchanged { OnErr result ((self.new ≡ self.old) × (output.new ≡ output.old)) }
     {
         let written = self.room_for(input.len(), output.len())?;
@@ -95,7 +109,7 @@ impl Gcm {
     ///
     /// # Errors
     ///
-    /// As `update`; else `ShortBuffer` where `tag` has less room than the tag has bytes, which are told. Nothing
+    /// As `update`; else `ShortBuffer` where `tag` has less room than the tag has bytes, which are reported. Nothing
     /// changes.
     pub fn seal(
         &mut self,
@@ -103,18 +117,26 @@ impl Gcm {
         output: &mut [u8],
         tag: &mut [u8],
     ) -> Result<usize, AeAnswer>
+        // It is a message that is encrypted.
         requires { self.old.way ≡ AeWay.Encrypt }
+        // For each message that the value represents: the answer is that of the definition, by the message and the room for text and tag.
         ensures answer { (m : Message) → Represents self.old m
             → result ≡ seal_answer m (length input.now) (length output.old) (length tag.old) }
+        // Under Ok(n) the first n bytes of the output continue the text of that message to the text of the longer one.
         ensures text { (m : Message) → Represents self.old m
             → IfOk result (λ n. text_of (with_more m input.now) ≡ text_of m ++ take n output.new) }
+        // Under Ok the front of `tag` is the tag of the whole message.
         ensures tag { (m : Message) → Represents self.old m
             → OnOk result (take (tag_len m) tag.new ≡ tag_of (with_more m input.now)) }
+        // Under Ok the value represents that message at its start.
         ensures restarted { (m : Message) → Represents self.old m
             → OnOk result (Represents self.new (at_start m)) }
+        // Under Ok(n) the output after its first n bytes is as it was.
         ensures rest { IfOk result (λ n. drop n output.new ≡ drop n output.old) }
+        // Under Ok what stands after the tag is as it was.
         ensures tag_rest { (m : Message) → Represents self.old m
             → OnOk result (drop (tag_len m) tag.new ≡ drop (tag_len m) tag.old) }
+        // Under Err the value, the output and `tag` are as they were.
         ensures unchanged { OnErr result
             ((self.new ≡ self.old) × (output.new ≡ output.old) × (tag.new ≡ tag.old)) }
     {
@@ -137,16 +159,24 @@ impl Gcm {
     /// As `update`, and nothing changes; else `BadTag` where the bytes of the tag or their number differ, and nothing is
     /// written.
     pub fn open(&mut self, input: &[u8], output: &mut [u8], tag: &[u8]) -> Result<usize, AeAnswer>
+        // It is a message that is decrypted.
         requires { self.old.way ≡ AeWay.Decrypt }
+        // For each message that the value represents: the answer is that of the definition, by the room of the output and by whether the tag is that
+        // of the whole message.
         ensures answer { (m : Message) (same : Bool) → Represents self.old m
             → (IsTrue same ↔ (tag.now ≡ tag_of (with_more m input.now)))
             → result ≡ open_answer m (length input.now) (length output.old) same }
+        // Under Ok(n) the first n bytes of the output continue the text of that message to the text of the longer one.
         ensures text { (m : Message) → Represents self.old m
             → IfOk result (λ n. text_of (with_more m input.now) ≡ text_of m ++ take n output.new) }
+        // Where the answer ends the message, the value represents that message at its start.
         ensures restarted { (m : Message) → Represents self.old m
             → IsTrue (ends_message result) → Represents self.new (at_start m) }
+        // Under Ok(n) the output after its first n bytes is as it was.
         ensures rest { IfOk result (λ n. drop n output.new ≡ drop n output.old) }
+        // Under Err the output is as it was.
         ensures unwritten { OnErr result (output.new ≡ output.old) }
+        // Where the answer doesn't end the message, the value is as it was.
         ensures unchanged { ends_message result ≡ false → self.new ≡ self.old }
     {
         let written = self.room_for(input.len(), output.len())?;
@@ -222,7 +252,7 @@ impl Gcm {
         self.text_len += cipher.len();
     }
 
-    // Whether the message begins with so many bytes more.
+    // Whether the message begins with this many bytes more.
     fn begins_with(&self, more: usize) -> bool
         ensures { result ≡ (self.now.text_len == 0 && nat_lt 0 more) }
     {

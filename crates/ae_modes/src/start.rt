@@ -20,8 +20,9 @@ use aes_core::{Key, encrypt_block};
 ///
 /// # Errors
 ///
-/// `NoNonce` for an empty nonce; else `WrongTag` where the tag would have another number of bits, which is told.
+/// `NoNonce` for an empty nonce; else `WrongTag` where the tag would have another number of bits, which is reported.
 pub fn gcm(key: Key, way: AeWay, nonce: &[u8], tag_bits: u32) -> Result<Gcm, AeAnswer>
+    // The nonce has at most as many bytes as an ask may have.
     requires { length nonce.now ≤ 524288 }
     ensures accepted { IsOk result ↔ IsTrue (may_begin nonce.now tag_bits) }
     ensures refused { IfErr result (λ e. e ≡ no_beginning nonce.now tag_bits) }

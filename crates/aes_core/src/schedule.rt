@@ -17,6 +17,7 @@ use crate::tables::ROUND_CONSTANTS;
 pub fn expand(key: &[u8]) -> Result<Key, WrongKeyLength>
     ensures expanded { IsOk result ↔ IsTrue (is_key_length (length key.now)) }
     ensures bytes { IfOk result (λ k. key_bytes k ≡ key.now) }
+    // A refusal gives the length of the key.
     ensures refused { IfErr result (λ e. e.0 ≡ length key.now) }
 {
     match key.len() {
@@ -95,7 +96,7 @@ fn first_words(key: &[u8]) -> [u32; 60]
     words
 }
 
-/// The words of the round keys, and zeros behind them.
+/// The words of the round keys, and zeros after them.
 fn schedule(key: &[u8]) -> [u32; 60]
     requires { IsTrue (is_key_length (length key.now)) }
     ensures { take (4 * (length key.now / 4 + 7)) result ≡ round_key_words key.now }

@@ -8,8 +8,11 @@ ghost use Rattle.aes_modes.specs.Modes.{xor_bytes};
 /// The block at a place.
 #[inline(always)]
 pub fn block_from(bytes: &[u8], at: usize) -> [u8; 16]
+    // The end of the block is a number that fits.
     requires fits { at + 16 < 2 ^ 64 }
+    // The block lies within the bytes.
     requires within { at + 16 ≤ length bytes.now }
+    // It is the 16 bytes from that place on.
     ensures { result ≡ take 16 (drop at bytes.now) }
 {
     let mut block = [0; 16];

@@ -41,7 +41,7 @@ impl Stream {
         }
     }
 
-    // Block `i` of what is held and the input behind it.
+    // Block `i` of what is held and the input after it.
     #[inline(always)]
     fn joined_block(&self, input: &[u8], i: usize) -> [u8; 16]
         requires small { length input.now ≤ 524288 }
@@ -57,7 +57,7 @@ impl Stream {
         }
     }
 
-    // Writes the text of the first blocks of what is held and the input behind it.
+    // Writes the text of the first blocks of what is held and the input after it.
     fn write_blocks(&self, vector: &mut [u8; 16], input: &[u8], output: &mut [u8], blocks: usize)
         requires small { length input.now ≤ 524288 }
         requires within { 16 * blocks ≤ self.now.count + length input.now }
@@ -77,7 +77,7 @@ impl Stream {
         }
     }
 
-    // What waits for the rest of its block behind the first blocks, at the front of a block.
+    // What waits for the rest of its block after the first blocks, at the front of a block.
     fn held_after(&self, input: &[u8], blocks: usize) -> [u8; 16]
         requires small { length input.now ≤ 524288 }
         requires within { 16 * blocks ≤ self.now.count + length input.now }

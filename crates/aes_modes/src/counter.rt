@@ -37,7 +37,9 @@ pub fn write_piece(
     output: &mut [u8],
 )
     requires shared { IsSharedStart key.now (counter_block counter) start.now }
+    // The piece ends within the block.
     requires within { skip + length input.now ≤ 16 }
+    // The output has as many bytes as the piece.
     requires room { length output.old ≡ length input.now }
     ensures { output.new
         ≡ xor_bytes input.now (drop skip (cipher (key_bytes key.now) (counter_block counter))) }

@@ -23,7 +23,7 @@ pub enum Way {
 /// Why a stream did nothing.
 #[derive(Clone, Copy, Debug, PartialEq, Eq, Error)]
 pub enum ModeAnswer {
-    /// The output has less room than the bytes that are needed, which are told.
+    /// The output has less room than the bytes that are needed, which are reported.
     #[error("the output needs {0} bytes")]
     ShortBuffer(usize),
     /// The message would end within a block.

@@ -31,6 +31,7 @@ impl Stream {
 
     /// How many bytes `count` more bytes of the message give.
     pub fn needed(&self, count: usize) -> usize
+        // One call takes at most as many bytes as an ask may have.
         requires { count ≤ 524288 }
         ensures { (c : Conversion) → Represents self.now c → result ≡ needed_of c count }
     {
@@ -42,8 +43,9 @@ impl Stream {
     ///
     /// # Errors
     ///
-    /// `ShortBuffer` where `output` has less room than is needed, which is told; nothing changes.
+    /// `ShortBuffer` where `output` has less room than is needed, which is reported; nothing changes.
     pub fn update(&mut self, input: &[u8], output: &mut [u8]) -> Result<usize, ModeAnswer>
+        // One call takes at most as many bytes as an ask may have.
         requires { length input.now ≤ 524288 }
         ensures answer { (c : Conversion) → Represents self.old c
             → result ≡ update_answer c (length input.now) (length output.old) }
@@ -51,7 +53,9 @@ impl Stream {
             → IfOk result (λ n. text_of (with_more c input.now) ≡ text_of c ++ take n output.new) }
         ensures taken { (c : Conversion) → Represents self.old c
             → OnOk result (Represents self.new (with_more c input.now)) }
+        // Under Ok(n) the output after its first n bytes is as it was.
         ensures rest { IfOk result (λ n. drop n output.new ≡ drop n output.old) }
+        // Under Err the stream and the output are as they were.
         ensures unchanged { OnErr result ((self.new ≡ self.old) × (output.new ≡ output.old)) }
     {
         let needed = self.room_for(input.len());
@@ -70,6 +74,7 @@ impl Stream {
     /// `Incomplete` where the mode is ECB or CBC and the message would end within a block; else
     /// `ShortBuffer` as in `update`. Nothing changes.
     pub fn finish(&mut self, input: &[u8], output: &mut [u8]) -> Result<usize, ModeAnswer>
+        // One call takes at most as many bytes as an ask may have.
         requires { length input.now ≤ 524288 }
         ensures answer { (c : Conversion) → Represents self.old c
             → result ≡ finish_answer c (length input.now) (length output.old) }
@@ -77,7 +82,9 @@ impl Stream {
             → IfOk result (λ n. text_of (with_more c input.now) ≡ text_of c ++ take n output.new) }
         ensures restarted { (c : Conversion) → Represents self.old c
             → OnOk result (Represents self.new (at_start c)) }
+        // Under Ok(n) the output after its first n bytes is as it was.
         ensures rest { IfOk result (λ n. drop n output.new ≡ drop n output.old) }
+        // Under Err the stream and the output are as they were.
         ensures unchanged { OnErr result ((self.new ≡ self.old) × (output.new ≡ output.old)) }
     {
         if self.mode != Mode::Ctr && (self.count + input.len()) % 16 != 0 {

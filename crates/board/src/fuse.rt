@@ -8,7 +8,7 @@ ghost use Rattle.board.specs.declared.fuse.Fuse.TheVariants.{Unset};
 pub enum Fuse {
     /// All of them.
     Unset,
-    /// So many.
+    /// This many.
     Passing(u32),
     /// None: a call was interrupted.
     Blown,
@@ -45,7 +45,7 @@ impl Fuse {
         }
     }
 
-    /// Lets so many calls pass. What has blown stays so.
+    /// Lets this many calls pass. What has blown stays so.
     pub fn refit(&mut self, calls: u32)
         ensures { self.new ≡ fuse_after_set self.old calls }
     {

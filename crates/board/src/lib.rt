@@ -41,11 +41,15 @@ pub trait Board {
 
     /// Reads a block.
     fn read(&mut self, block: u64, into: &mut [u8; 1024]) -> Result<(), BoardFailed>
+        // The block is one of the board.
         requires { block < (view self.old).size }
         ensures call { Called (is_ok result) (view self.old) (view self.new) }
+        // No block is written.
         ensures writes { (view self.new).writes ≡ (view self.old).writes }
+        // Under Ok, where the board tells its reads, these are the bytes of the block.
         ensures bytes { IsTrue tells_reads
             → OnOk result (into.new ≡ (view self.old).state.reads block) }
+        // Where the board tells its reads, each block reads as before.
         ensures same { IsTrue tells_reads
             → (view self.new).state.reads ≡ (view self.old).state.reads }
         ensures honest { honest self.old
@@ -54,6 +58,7 @@ pub trait Board {
 
     /// Writes a block. Until the next Ok of `sync` a crash may leave any bytes in it.
     fn write(&mut self, block: u64, from: &[u8; 1024]) -> Result<(), BoardFailed>
+        // The block is one of the board.
         requires { block < (view self.old).size }
         ensures call { Called (is_ok result) (view self.old) (view self.new) }
         ensures writes { (view self.new).writes ≡ up_to_limit ((view self.old).writes + 1) }
@@ -64,6 +69,7 @@ pub trait Board {
     /// Makes durable what reads give.
     fn sync(&mut self) -> Result<(), BoardFailed>
         ensures call { Called (is_ok result) (view self.old) (view self.new) }
+        // No block is written.
         ensures writes { (view self.new).writes ≡ (view self.old).writes }
         ensures honest { honest self.old
             → honest self.new × Answered (view self.old) (view self.new)
@@ -72,6 +78,7 @@ pub trait Board {
     /// The counter.
     fn counter(&mut self) -> Result<u64, BoardFailed>
         ensures call { Called (is_ok result) (view self.old) (view self.new) }
+        // No block is written.
         ensures writes { (view self.new).writes ≡ (view self.old).writes }
         ensures honest { honest self.old
             → honest self.new × Answered (view self.old) (view self.new)
@@ -80,6 +87,7 @@ pub trait Board {
     /// Raises the counter by one and gives the new one. At the counter 2^64 - 1 it always fails.
     fn advance(&mut self) -> Result<u64, BoardFailed>
         ensures call { Called (is_ok result) (view self.old) (view self.new) }
+        // No block is written.
         ensures writes { (view self.new).writes ≡ (view self.old).writes }
         ensures honest { honest self.old
             → honest self.new × Answered (view self.old) (view self.new)
@@ -96,6 +104,7 @@ pub trait Board {
     /// A loss of power: it ends the fuse and leaves one of the images and counters that a crash may leave, by `pick`.
     fn power(&mut self, pick: u64)
         ensures ordered { Ordered pick (view self.old) (view self.new) }
+        // No fuse is set then.
         ensures fuse { (view self.new).fuse ≡ Unset }
         ensures honest { honest self.old → honest self.new × Passes (view self.old) (view self.new)
             × Powered (view self.old).state (view self.new).state };

@@ -7,7 +7,7 @@ use std::alloc::Global;
 use store_api::{Leaf, Leaves, Volume};
 use tree_volume::TreeVolume;
 
-/// The block of a round: the first behind the two slots, which no volume uses.
+/// The block of a round: the first after the two slots, which no volume uses.
 pub const UNUSED: u64 = 4;
 
 /// Opens the volume of a board; a blank board is formatted.
@@ -18,7 +18,7 @@ pub fn opened<B: Board + Drop>(alloc: Global, board: B) -> Result<TreeVolume<B>,
     }
 }
 
-/// Makes so many commits, each of leaf 0 of region 0, with other bytes each time.
+/// Makes this many commits, each of leaf 0 of region 0, with other bytes each time.
 fn make_commits<V: Volume>(alloc: Global, volume: &mut V, count: u32) -> Result<()> {
     for _ in 0..count {
         let mut leaves = Leaves::none(alloc);
@@ -36,7 +36,7 @@ fn formatted<B: Board + Drop>(alloc: Global, board: B) -> Result<(B, u64), OpenA
     Ok((volume.into_board(), sequence))
 }
 
-/// Opens the volume again, makes so many commits, and gives the board back.
+/// Opens the volume again, makes this many commits, and gives the board back.
 pub fn committed<B: Board + Drop>(alloc: Global, board: B, count: u32) -> Result<B> {
     let mut volume = opened(alloc, board)?;
     let made = make_commits(alloc, &mut volume, count);
@@ -50,7 +50,7 @@ pub fn committed<B: Board + Drop>(alloc: Global, board: B, count: u32) -> Result
     }
 }
 
-/// Opens the volume, makes so many commits, and tells the sequence at which it was opened, and how many blocks the
+/// Opens the volume, makes this many commits, and tells the sequence at which it was opened, and how many blocks the
 /// opening and the commits wrote.
 pub fn run<R: Print, B: Board + Drop>(rt: &R, alloc: Global, board: B, count: u32) -> Result<()> {
     let (board, sequence) = formatted(alloc, board)?;
@@ -72,7 +72,7 @@ fn make_sync<B: Board>(board: &mut B, number: u32) -> Result<(), BoardFailed> {
     board.sync()
 }
 
-/// Makes so many rounds of a write and a sync, and tells how many blocks were written.
+/// Makes this many rounds of a write and a sync, and tells how many blocks were written.
 pub fn run_syncs<R: Print, B: Board>(rt: &R, board: &mut B, count: u32) -> Result<()> {
     for number in 0..count {
         make_sync(board, number)?;

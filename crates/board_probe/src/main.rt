@@ -129,7 +129,7 @@ fn look<R: Print, B: Board>(rt: &R, board: &mut B) -> Result<()> {
     Ok(())
 }
 
-/// Makes so many rounds, and tells the number of each.
+/// Makes this many rounds, and tells the number of each.
 fn make_rounds<R: Print, B: Board>(rt: &R, board: &mut B, count: u32) -> Result<()> {
     for _ in 0..count {
         let round = make_round(board)?;
@@ -145,7 +145,7 @@ fn hold<R: Input + Print>(rt: &R) -> Result<()> {
     Ok(())
 }
 
-/// The work that a word and the number behind it ask for.
+/// The work that a word and the number after it ask for.
 fn work_of(word: &str, count: Option<u32>) -> Option<Work> {
     match word {
         "look" => Some(Work::Look),

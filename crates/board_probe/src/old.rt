@@ -25,7 +25,7 @@ fn fill(regions: &mut OldRegions, region: u8) {
     }
 }
 
-/// So many full regions; there are sixteen at most.
+/// This many full regions; there are sixteen at most.
 fn full(alloc: Global, count: u32) -> Result<OldRegions, NoMemory> {
     let mut regions = OldRegions::blank(alloc)?;
     for region in 0..16_u8 {
@@ -36,7 +36,7 @@ fn full(alloc: Global, count: u32) -> Result<OldRegions, NoMemory> {
     Ok(regions)
 }
 
-/// Writes an image with so many full regions, and tells how many blocks were written.
+/// Writes an image with this many full regions, and tells how many blocks were written.
 pub fn run<R: Print, B: Board>(rt: &R, alloc: Global, board: &mut B, count: u32) -> Result<()> {
     let regions = full(alloc, count)?;
     write_image(board, &regions, SEQUENCE)?;

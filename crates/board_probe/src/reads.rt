@@ -10,7 +10,7 @@ use std::alloc::Global;
 use store_api::Volume;
 use tree_volume::TreeVolume;
 
-/// Reads leaf 0 of region 0 so many times.
+/// Reads leaf 0 of region 0 this many times.
 fn read_leaf_often<B: Board + Drop>(volume: &mut TreeVolume<B>, count: u32) -> Result<()> {
     let mut bytes = [0; 1024];
     for _ in 0..count {
@@ -19,7 +19,7 @@ fn read_leaf_often<B: Board + Drop>(volume: &mut TreeVolume<B>, count: u32) -> R
     Ok(())
 }
 
-/// Makes a commit of one leaf, opens the volume again, and reads the leaf so many times.
+/// Makes a commit of one leaf, opens the volume again, and reads the leaf this many times.
 pub fn run_reads<R: Print, B: Board + Drop>(
     rt: &R,
     alloc: Global,
@@ -35,7 +35,7 @@ pub fn run_reads<R: Print, B: Board + Drop>(
     Ok(())
 }
 
-/// Puts a sealed block into the block that no volume uses, and reads and opens it so many times. It fails on a board that
+/// Puts a sealed block into the block that no volume uses, and reads and opens it this many times. It fails on a board that
 /// hasn't that block.
 fn open_often<B: Board>(board: &mut B, count: u32) -> Result<()> {
     if board.blocks() <= UNUSED {

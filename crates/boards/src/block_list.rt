@@ -7,7 +7,7 @@ use crate::room;
 use std::alloc::Global;
 use tee_base::NoMemory;
 
-/// Some of so many blocks.
+/// Some of this many blocks.
 ///
 /// The places aren't taken back where the list is emptied. So a place counts only where the list has the block there.
 #[derive(Drop)]
@@ -22,7 +22,7 @@ pub struct BlockList {
 impl BlockList {
     ghost use Rattle.boards.specs.BlockList.{IsBlockList, HasListed};
 
-    /// No block of so many. Its memory is reserved, and not touched.
+    /// No block of this many. Its memory is reserved, and not touched.
     pub fn new(alloc: Global, count: usize) -> Result<BlockList, NoMemory>
         ensures list { IfOk result IsBlockList }
         ensures count { IfOk result (λ l. l.count ≡ count) }
@@ -79,7 +79,7 @@ impl BlockList {
         Some(place)
     }
 
-    /// Lists a block behind the others.
+    /// Lists a block after the others.
     pub fn add(&mut self, block: usize)
         requires list { IsBlockList self.old }
         requires within { block < self.old.count }

@@ -18,7 +18,7 @@ use tee_base::Bytes;
 /// How many bytes of an image are read: those of the blocks that a new one has.
 const IMAGE_BYTES: usize = NEW_BLOCKS as usize * BLOCK;
 
-/// The first bytes of an image of so many bytes. Behind a shorter one are zeros, as an opening lengthens it.
+/// The first bytes of an image of this many bytes. After a shorter one are zeros, as an opening lengthens it.
 fn image_bytes<F: Read + Seek>(
     alloc: Global,
     file: &mut F,

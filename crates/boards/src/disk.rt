@@ -24,7 +24,7 @@ pub struct Disk {
     /// All that was offered so far, for contracts alone.
     offers: OfferLog,
     counter: u64,
-    /// An advance was interrupted, and no call has told the counter since.
+    /// An advance was interrupted, and no call has reported the counter since.
     unsettled: bool,
     faults: u64,
     /// How many orders were given, modulo 2^64.

@@ -89,7 +89,9 @@ impl FileBoardFailed {
 
     /// A call on the file failed so. Want of memory is no fault of the file.
     pub fn of(file: BoardFile, fault: FileFault, error: io::Error) -> FileBoardFailed
+        // Want of memory stays want of memory.
         ensures memory { error_kind error ≡ OutOfMemory → result ≡ NoMemory }
+        // Any other error is a failure of this file, at this call, with the error.
         ensures failed { error_kind error ≢ OutOfMemory
             → result ≡ Failed (record { file = file; fault = fault; said = Some error }) }
     {

@@ -123,9 +123,13 @@ impl<F: Read + Write + Seek + OpenFile + Drop> Board for FileBoard<F> {
 
     fn sync(&mut self) -> Result<(), BoardFailed>
         ensures call { Called (is_ok result) (view_of self.old) (view_of self.new) }
+        // No block is written.
         ensures writes { (view_of self.new).writes ≡ (view_of self.old).writes }
+        // Once a sync of the file failed, this one is refused.
         ensures refused { self.old.sync_failed ≡ true → is_ok result ≡ false }
+        // Once a sync failed, it stays so noted.
         ensures stays { self.old.sync_failed ≡ true → self.new.sync_failed ≡ true }
+        // Under Ok no sync has failed.
         ensures told { is_ok result ≡ true → self.new.sync_failed ≡ false }
     {
         self.counts.begin()?;
@@ -135,8 +139,11 @@ impl<F: Read + Write + Seek + OpenFile + Drop> Board for FileBoard<F> {
 
     fn counter(&mut self) -> Result<u64, BoardFailed>
         ensures call { Called (is_ok result) (view_of self.old) (view_of self.new) }
+        // No block is written.
         ensures writes { (view_of self.new).writes ≡ (view_of self.old).writes }
+        // Under Ok it is the number that the file of the counter holds.
         ensures value { IfOk result (λ n. number_of self.old ≡ Some n) }
+        // The file of the counter holds what it held.
         ensures same { number_of self.new ≡ number_of self.old }
     {
         self.counts.begin()?;
@@ -146,15 +153,20 @@ impl<F: Read + Write + Seek + OpenFile + Drop> Board for FileBoard<F> {
 
     fn advance(&mut self) -> Result<u64, BoardFailed>
         ensures call { Called (is_ok result) (view_of self.old) (view_of self.new) }
+        // No block is written.
         ensures writes { (view_of self.new).writes ≡ (view_of self.old).writes }
+        // Under Ok(n) the file of the counter held n - 1 before.
         ensures value { IfOk result (λ n. (0 < n) × (number_of self.old ≡ Some (n - 1))) }
+        // Under Ok(n) it holds n now.
         ensures known { IfOk result (λ n. number_of self.new ≡ Some n) }
         ensures lost { OnErr result (passes (fate_by (view_of self.old).fuse) ≡ true
             → number_of self.old ≢ Some (2 ^ 64 - 1) → number_of self.new ≡ None) }
         ensures stopped { passes (fate_by (view_of self.old).fuse) ≡ false
             → number_of self.new ≡ number_of self.old }
+        // A counter at 2^64 - 1 stays there.
         ensures full { number_of self.old ≡ Some (2 ^ 64 - 1)
             → number_of self.new ≡ number_of self.old }
+        // Where there is no file of the counter it fails.
         ensures missing { has_counter self.old ≡ false → is_ok result ≡ false }
     {
         self.counts.begin()?;
@@ -165,6 +177,7 @@ impl<F: Read + Write + Seek + OpenFile + Drop> Board for FileBoard<F> {
     fn fuse(&mut self, calls: u32)
         ensures ordered { Ordered calls (view_of self.old) (view_of self.new) }
         ensures fuse { (view_of self.new).fuse ≡ fuse_after_set (view_of self.old).fuse calls }
+        // Both files are as they were.
         ensures rest { KeepsFiles self.old self.new }
     {
         self.counts.order(u64::from(calls));
@@ -173,7 +186,9 @@ impl<F: Read + Write + Seek + OpenFile + Drop> Board for FileBoard<F> {
 
     fn power(&mut self, pick: u64)
         ensures ordered { Ordered pick (view_of self.old) (view_of self.new) }
+        // No fuse is set then.
         ensures fuse { (view_of self.new).fuse ≡ Unset }
+        // Both files are as they were.
         ensures rest { KeepsFiles self.old self.new }
     {
         self.counts.order(pick);

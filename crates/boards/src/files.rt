@@ -188,7 +188,7 @@ fn write_zeros<F: Write + Seek>(file: &mut F, from: u64) -> io::Result<()> {
     Ok(())
 }
 
-/// Lengthens an image of so many bytes to the length of a new one, by zeros. Its length changes in one step, so that no
+/// Lengthens an image of this many bytes to the length of a new one, by zeros. Its length changes in one step, so that no
 /// crash leaves another. The zeros are written besides, so that a full disk shows here and not at a later write. Where
 /// that fails the image gets its length back.
 pub fn lengthen<F: Write + Seek + OpenFile>(file: &mut F, bytes: u64) -> io::Result<()> {
@@ -235,7 +235,7 @@ fn fill_holes<F: Read + Write + Seek>(file: &mut F) -> io::Result<()> {
     Ok(())
 }
 
-/// Gives an image of so many bytes the length of a new one, where it is shorter, and a place on the disk for each block
+/// Gives an image of this many bytes the length of a new one, where it is shorter, and a place on the disk for each block
 /// that a new one has. It says whether the image was lengthened.
 fn complete<F: Read + Write + Seek + OpenFile>(file: &mut F, bytes: u64) -> io::Result<bool> {
     let is_short = bytes < NEW_BYTES;
@@ -253,7 +253,7 @@ fn is_zeros(bytes: &[u8]) -> bool {
     bytes.iter().all(|byte| *byte == 0)
 }
 
-/// Whether the image, of so many bytes, holds no gate and no header.
+/// Whether the image, of this many bytes, holds no gate and no header.
 fn is_blank<F: Read + Seek>(file: &mut F, bytes: u64) -> io::Result<bool> {
     let mut front = [0; FRONT_BYTES];
     let count = bytes.min(FRONT_BYTES as u64) as usize;

@@ -36,9 +36,10 @@ pub struct MemBoard {
 impl MemBoard {
     ghost use Rattle.boards.specs.MemoryBoard.{view_of, memory_of};
 
-    /// A board of so many zero blocks, with the counter 0.
+    /// A board of this many zero blocks, with the counter 0.
     pub fn blank(alloc: Global, key: [u8; 32], blocks: u64) -> Result<MemBoard, NoMemory>
         ensures new { IfOk result (λ b. IsNew key blocks 0 (memory_of b)) }
+        // Each of the blocks reads as zeros.
         ensures zero { IfOk result (λ b.
             (k : ℕ) → k < blocks → (view_of b).state.reads k ≡ replicate BLOCK_BYTES 0) }
     {
@@ -53,6 +54,7 @@ impl MemBoard {
         counter: u64,
         key: [u8; 32],
     ) -> Result<MemBoard, NoMemory>
+        // The image consists of whole blocks.
         requires { length image % BLOCK_BYTES ≡ 0 }
         ensures new { IfOk result (λ b.
             IsNew key (length image / BLOCK_BYTES) counter (memory_of b)) }
@@ -87,9 +89,11 @@ impl MemBoard {
     /// Names calls of `read`, `write`, `sync`, `counter` and `advance` that are to be interrupted, by their numbers
     /// from 0 since the board was made.
     pub fn failing(&mut self, calls: &[u64]) -> Result<(), NoMemory>
+        // Under Ok these calls are to fail besides those that were named before, and the rest of the board is as it was.
         ensures ok { OnOk result (memory_of self.new
             ≡ record (memory_of self.old)
             { failing = (memory_of self.old).failing ++ calls.now }) }
+        // Under Err the board is as it was.
         ensures err { OnErr result (memory_of self.new ≡ memory_of self.old) }
     {
         self.schedule.name(calls)
@@ -97,6 +101,7 @@ impl MemBoard {
 
     /// What reads give, block after block.
     pub fn image(&self, alloc: Global) -> Result<Bytes, NoMemory>
+        // There are as many bytes as all blocks have.
         ensures count { IfOk result (λ bytes.
             length bytes ≡ BLOCK_BYTES * (view_of self.now).size) }
         ensures blocks { IfOk result (λ bytes.
@@ -130,15 +135,20 @@ impl Board for MemBoard {
     }
 
     fn read(&mut self, block: u64, into: &mut [u8; 1024]) -> Result<(), BoardFailed>
+        // The block is one of the board.
         requires { block < (view_of self.old).size }
         ensures call { Called (is_ok result) (view_of self.old) (view_of self.new) }
+        // No block is written.
         ensures writes { (view_of self.new).writes ≡ (view_of self.old).writes }
+        // Under Ok these are the bytes of the block.
         ensures bytes { OnOk result (into.new ≡ (view_of self.old).state.reads block) }
+        // Each block reads as before.
         ensures same { (view_of self.new).state.reads ≡ (view_of self.old).state.reads }
         ensures honest { IsHonest self.old
             → IsHonest self.new × Answered (view_of self.old) (view_of self.new)
             × Unchanged (view_of self.old).state (view_of self.new).state }
         ensures exact { IsExact true (is_ok result) (memory_of self.old) (memory_of self.new) }
+        // The last bytes that a write offered to each block stay.
         ensures offered { (memory_of self.new).offered ≡ (memory_of self.old).offered }
     {
         self.past = self.past.then(&self.disk);
@@ -147,6 +157,7 @@ impl Board for MemBoard {
     }
 
     fn write(&mut self, block: u64, from: &[u8; 1024]) -> Result<(), BoardFailed>
+        // The block is one of the board.
         requires { block < (view_of self.old).size }
         ensures call { Called (is_ok result) (view_of self.old) (view_of self.new) }
         ensures writes { (view_of self.new).writes ≡ up_to_limit ((view_of self.old).writes + 1) }
@@ -155,6 +166,7 @@ impl Board for MemBoard {
             × Wrote block from.now (is_ok result) (view_of self.old).state
             (view_of self.new).state }
         ensures exact { IsExact true (is_ok result) (memory_of self.old) (memory_of self.new) }
+        // Under Err each block reads as before.
         ensures earlier { is_ok result ≡ false
             → (view_of self.new).state.reads ≡ (view_of self.old).state.reads }
         ensures offers { Offers block from.now (is_refused (next_fate (memory_of self.old)))
@@ -169,11 +181,13 @@ impl Board for MemBoard {
 
     fn sync(&mut self) -> Result<(), BoardFailed>
         ensures call { Called (is_ok result) (view_of self.old) (view_of self.new) }
+        // No block is written.
         ensures writes { (view_of self.new).writes ≡ (view_of self.old).writes }
         ensures honest { IsHonest self.old
             → IsHonest self.new × Answered (view_of self.old) (view_of self.new)
             × Synced (is_ok result) (view_of self.old).state (view_of self.new).state }
         ensures exact { IsExact true (is_ok result) (memory_of self.old) (memory_of self.new) }
+        // The last bytes that a write offered to each block stay.
         ensures offered { (memory_of self.new).offered ≡ (memory_of self.old).offered }
     {
         self.past = self.past.then(&self.disk);
@@ -183,12 +197,15 @@ impl Board for MemBoard {
 
     fn counter(&mut self) -> Result<u64, BoardFailed>
         ensures call { Called (is_ok result) (view_of self.old) (view_of self.new) }
+        // No block is written.
         ensures writes { (view_of self.new).writes ≡ (view_of self.old).writes }
         ensures honest { IsHonest self.old
             → IsHonest self.new × Answered (view_of self.old) (view_of self.new)
             × Counted result (view_of self.old).state (view_of self.new).state }
         ensures exact { IsExact true (is_ok result) (memory_of self.old) (memory_of self.new) }
+        // Under Ok it is the counter.
         ensures value { IfOk result (λ n. n ≡ (view_of self.old).state.counter) }
+        // The last bytes that a write offered to each block stay.
         ensures offered { (memory_of self.new).offered ≡ (memory_of self.old).offered }
     {
         self.past = self.past.then(&self.disk);
@@ -198,18 +215,21 @@ impl Board for MemBoard {
 
     fn advance(&mut self) -> Result<u64, BoardFailed>
         ensures call { Called (is_ok result) (view_of self.old) (view_of self.new) }
+        // No block is written.
         ensures writes { (view_of self.new).writes ≡ (view_of self.old).writes }
         ensures honest { IsHonest self.old
             → IsHonest self.new × Answered (view_of self.old) (view_of self.new)
             × Advanced result (view_of self.old).state (view_of self.new).state }
         ensures exact { IsExact (nat_lt (view_of self.old).state.counter (2 ^ 64 - 1))
             (is_ok result) (memory_of self.old) (memory_of self.new) }
+        // Under Ok it is the counter before and one.
         ensures value { IfOk result (λ n. n ≡ (view_of self.old).state.counter + 1) }
         ensures unsettled { is_ok result ≡ false
             → (memory_of self.new).unsettled
             ≡ (if is_interrupted (next_fate (memory_of self.old))
             then true
             else (memory_of self.old).unsettled) }
+        // The last bytes that a write offered to each block stay.
         ensures offered { (memory_of self.new).offered ≡ (memory_of self.old).offered }
     {
         self.past = self.past.then(&self.disk);
@@ -235,6 +255,7 @@ impl Board for MemBoard {
 
     fn power(&mut self, pick: u64)
         ensures ordered { Ordered pick (view_of self.old) (view_of self.new) }
+        // No fuse is set then.
         ensures fuse { (view_of self.new).fuse ≡ Unset }
         ensures honest { IsHonest self.old
             → IsHonest self.new × Passes (view_of self.old) (view_of self.new)

@@ -24,7 +24,7 @@ pub struct Pending {
 impl Pending {
     ghost use Rattle.boards.specs.Pending.{IsPending, HasOffered};
 
-    /// Of so many blocks none.
+    /// Of this many blocks none.
     pub fn none(alloc: Global, count: usize) -> Result<Pending, NoMemory>
         ensures pending { IfOk result IsPending }
         ensures count { IfOk result (λ p. p.listed.count ≡ count) }

@@ -9,7 +9,7 @@ use crate::room;
 use std::alloc::Global;
 use tee_base::{Bytes, NoMemory};
 
-/// So many blocks. Memory is reserved for all of them, and only that of the written ones is touched.
+/// This many blocks. Memory is reserved for all of them, and only that of the written ones is touched.
 #[derive(Drop)]
 pub struct Row {
     /// The blocks that were written, in the order of their first writes.
@@ -21,7 +21,7 @@ pub struct Row {
 impl Row {
     ghost use Rattle.boards.specs.Row.{IsRow, Sets, block_of};
 
-    /// So many zero blocks.
+    /// This many zero blocks.
     pub fn zeros(alloc: Global, count: usize) -> Result<Row, NoMemory>
         ensures row { IfOk result IsRow }
         ensures count { IfOk result (λ r. r.written.count ≡ count) }

@@ -21,7 +21,7 @@ pub enum Text {
     Ciphertext,
 }
 
-/// The SHA-256 of so many MiB.
+/// The SHA-256 of this many MiB.
 pub fn run(text: Text, count: u32) -> Result<[u8; 32], ModeAnswer> {
     let zeros = [0; PIECE];
     let mut piece = [0; PIECE];

@@ -59,7 +59,7 @@ fn by_hmac(hash: Hash, message: &mut [u8], count: u32)
     }
 }
 
-/// The first bytes of the last of so many digests.
+/// The first bytes of the last of this many digests.
 pub fn run(alloc: Global, maker: Maker, hash: Hash, count: u32) -> Result<[u8; FRONT_LEN]> {
     let mut message = vec![in alloc; 0u8; MESSAGE_LEN]?;
     match (maker, hash) {

@@ -113,7 +113,7 @@ fn check<R: Print>(rt: &R, alloc: Global) -> Result<()> {
     Ok(())
 }
 
-/// What the words behind the program's name ask for.
+/// What the words after the program's name ask for.
 fn asked(words: &[String]) -> Option<Task> {
     match words {
         [_, word] if word.as_str() == "check" => Some(Task::Check),

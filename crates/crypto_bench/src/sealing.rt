@@ -110,7 +110,7 @@ fn make_parts(count: u32) -> Result<[u8; FRONT_LEN], ModeAnswer> {
     Ok(front_of(&plain))
 }
 
-/// The first bytes of what so many thousands end with.
+/// The first bytes of what this many thousands end with.
 pub fn run(part: Part, count: u32) -> Result<[u8; FRONT_LEN]> {
     match part {
         Part::Seal => Ok(seal_blocks(count)),

@@ -1,4 +1,4 @@
-//! What is told of an operation.
+//! What is reported of an operation.
 
 /// Algorithm and mode by their numbers, the sizes of its key in bits, and whether it is active.
 #[derive(Clone, Copy, Debug, PartialEq, Eq)]

@@ -29,7 +29,7 @@ fn ae_way(way: Way) -> AeWay
     }
 }
 
-/// Whether the message may have so many bytes more, and there is room for what becomes of them.
+/// Whether the message may have this many bytes more, and there is room for what becomes of them.
 fn look_for_room(gcm: &Gcm, count: usize, room: u32) -> Result<(), OpAnswer>
     requires { count ≤ MAX_ASK_BYTES }
     ensures answer { (m : Message) → ae.Represents gcm.now m
@@ -116,7 +116,7 @@ fn opened(gcm: &mut Gcm, bytes: &[u8], memory: Vec<u8>, tag: &[u8]) -> Option<By
 }
 
 impl Operation {
-    /// Begins a message under a nonce, with a tag of so many bits. It takes no memory.
+    /// Begins a message under a nonce, with a tag of this many bits. It takes no memory.
     ///
     /// # Errors
     ///

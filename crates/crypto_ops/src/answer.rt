@@ -8,7 +8,7 @@ pub enum OpAnswer {
     /// There is no such algorithm or mode, or the size doesn't fit its kind of key.
     #[error("algorithm, mode or key size is not supported")]
     NotSupported,
-    /// The content has more bytes than there is room for; it has so many.
+    /// The content has more bytes than there is room for; it has this many.
     #[error("the content needs room for {0} bytes")]
     Short(u32),
     /// The code isn't that of the message. The operation is initial.

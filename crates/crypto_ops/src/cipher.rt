@@ -30,7 +30,7 @@ fn first_vector(mode: Mode, iv: &[u8]) -> Option<[u8; 16]>
     }
 }
 
-/// How many bytes the stream gives for so many more of its message.
+/// How many bytes the stream gives for this many more of its message.
 fn needed_for(stream: &Stream, count: usize) -> usize
     requires { count ≤ MAX_ASK_BYTES }
     ensures small { result ≤ MAX_ASK_BYTES }
@@ -50,7 +50,7 @@ fn is_incomplete(stream: &Stream, bytes: &[u8]) -> bool
     matches!(trial.finish(bytes, &mut []), Err(ModeAnswer::Incomplete))
 }
 
-/// Memory for so many bytes.
+/// Memory for this many bytes.
 pub(crate) fn memory_of(alloc: Global, count: usize) -> Result<Vec<u8>, OpAnswer>
     requires { count ≤ MAX_ASK_BYTES }
     ensures ok { IfOk result (λ memory. length memory.items ≡ count) }
@@ -62,7 +62,7 @@ pub(crate) fn memory_of(alloc: Global, count: usize) -> Result<Vec<u8>, OpAnswer
     }
 }
 
-/// Memory for so many bytes, where there is room for them.
+/// Memory for this many bytes, where there is room for them.
 fn memory_for(alloc: Global, needed: usize, room: u32) -> Result<Vec<u8>, OpAnswer>
     requires { needed ≤ MAX_ASK_BYTES }
     ensures ok { IfOk result (λ memory. (length memory.items ≡ needed) × (needed ≤ room)) }

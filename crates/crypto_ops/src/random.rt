@@ -48,6 +48,7 @@ impl Stream {
             → self.old ≡ stream_at seed application boot place
             → IfOk result (λ bytes. bytes ≡ random seed application boot place count) }
         ensures moved { OnOk result (self.new ≡ stream_after self.old count) }
+        // Under Err the stream is at the same word.
         ensures unchanged { OnErr result (self.new ≡ self.old) }
     {
         let mut bytes = vec![in alloc; 0; count as usize]?;

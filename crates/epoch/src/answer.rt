@@ -7,7 +7,7 @@ use thiserror::Error;
 /// Why a volume isn't opened.
 #[derive(Clone, Copy, Debug, PartialEq, Eq, Error)]
 pub enum OpenAnswer {
-    /// The board has only so many blocks.
+    /// The board has only this many blocks.
     #[error("the board has only {0} blocks")]
     TooSmall(u64),
     /// No slot is open, and the counter isn't 0 but this.

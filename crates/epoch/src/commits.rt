@@ -55,11 +55,15 @@ pub trait Change {
     ///
     /// A call of the board failed.
     fn write<B: Board>(&mut self, board: &mut B, sequence: u64) -> Result<TreeEntry, BoardFailed>
+        // The board has the blocks of the volume.
         requires size { form.blocks ≤ (B.view board.old).size }
+        // No commit has the sequence 0.
         requires sequence { 0 < sequence }
         ensures calls { CallRun (is_ok result) (B.view board.old) (B.view board.new) }
+        // At most as many writes were made as the change may cost.
         ensures writes { (B.view board.new).writes ≤ (B.view board.old).writes + cost self.old }
         ensures root { IfOk result (λ entry. IsRootFor form sequence (root self.new) entry) }
+        // For each key that the change checks: under Ok the entry seals what the change wrote under this sequence, and the change still checks it.
         ensures entries { (key : List ℕ) → checks self.old key
             → OnOk result (seals self.old self.new key sequence × checks self.new key) }
         ensures counter { B.honest board.old → (n : ℕ) → IsSettledAt n (B.view board.old).state
@@ -82,6 +86,7 @@ pub trait Change {
             (after self.old (leaves_of form (B.view board.old).key (B.view board.old).state.reads
             (root self.old)))
             (B.view board.new).state.reads) }
+        // On an honest board, where the change fits the image before, under Ok what it keeps fits the image after.
         ensures keeps { B.honest board.old
             → fits self.old (B.view board.old).key (B.view board.old).state.reads
             → OnOk result (keeps self.new (B.view board.old).key
@@ -109,7 +114,9 @@ pub fn commit<B: Board, C: Change>(
     change: &mut C,
     sequence: u64,
 ) -> Result<TreeEntry, BoardFailed>
+    // The board has the blocks of the volume.
     requires size { C.form.blocks ≤ (B.view board.old).size }
+    // The next sequence is a number that fits.
     requires sequence { sequence + 1 < 2 ^ 64 }
     ensures calls { CallRun (is_ok result) (B.view board.old) (B.view board.new) }
     // beside what the change writes a gate is shut, the header laid, and a gate opened
@@ -117,13 +124,14 @@ pub fn commit<B: Board, C: Change>(
         ≤ (B.view board.old).writes + C.cost change.old + 3 }
     ensures root { IfOk result (λ entry.
         IsRootFor C.form (sequence + 1) (C.root change.new) entry) }
+    // For each key that the change checks: under Ok the entry seals what the change wrote under the next sequence, and the change still checks it.
     ensures entries { (key : List ℕ) → C.checks change.old key
         → OnOk result (C.seals change.old change.new key (sequence + 1)
         × C.checks change.new key) }
     // at Ok the counter is the new sequence, whatever the image
     ensures counter { B.honest board.old → IsSettledAt sequence (B.view board.old).state
         → OnOk result (IsSettledAt (sequence + 1) (B.view board.new).state) }
-    // behind the slots what the change never writes stays, at every moment too
+    // after the slots, what the change never writes stays, at every moment too
     ensures honest { B.honest board.old → B.honest board.new
         × StaysAlone (λ k. (3 < k) × C.untouched k) (B.view board.old) (B.view board.new) }
     ensures commits { B.honest board.old → (before : Held)

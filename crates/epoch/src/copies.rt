@@ -5,6 +5,7 @@ ghost use Rattle.epoch.specs.Copies.{copy_of};
 /// Which of its two copies a number names.
 pub fn named_copy(copy: u64) -> u64
     ensures copy { result ≡ copy_of copy }
+    // It is 0 or 1.
     ensures below { result < 2 }
 {
     if copy == 0 { 0 } else { 1 }

@@ -31,10 +31,12 @@ use seal::Keys;
 ///
 /// As the opening rule refuses, and `Failed` where a call of the board failed. No block is written.
 pub fn find_header<B: Board>(board: &mut B, format: Format) -> Result<Option<Header>, OpenAnswer>
+    // The format has blocks for both headers and both gates.
     requires slots { 4 ≤ format.blocks }
     ensures search { Searches format result (B.view board.old) (B.view board.new) }
     ensures honest { B.honest board.old → B.honest board.new
         × SearchesHonestly result (B.view board.old) (B.view board.new) }
+    // Under Ok the board has the blocks of the format.
     ensures size { OnOk result (format.blocks ≤ (B.view board.old).size) }
     // whatever the board: by the rule over what it tells, at some counter
     ensures rule { IsTrue B.tells_reads → (counter : ℕ) × IsRuled result

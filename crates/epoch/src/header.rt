@@ -52,6 +52,7 @@ pub fn entry_bytes(entry: &TreeEntry) -> [u8; 64]
 
 /// The entry that stands in a block from a place on.
 pub fn entry_at(block: &[u8], at: usize) -> TreeEntry
+    // The 64 bytes of the entry lie within the block.
     requires { at + 64 ≤ length block.now }
     ensures { result ≡ entry_from at block.now }
 {

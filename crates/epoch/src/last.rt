@@ -17,7 +17,9 @@ pub fn exhaust<B: Board>(board: &mut B) -> LeafAnswer
     ensures calls { CallRun (not (is_failure result)) (B.view board.old) (B.view board.new) }
     ensures cause { result ≡ answers.Failed
         → Rose (B.view board.old).state.faults (B.view board.new).state.faults }
+    // The answer is `Failed` or `NoMemory`.
     ensures answer { (result ≡ answers.Failed) ⊎ (result ≡ answers.NoMemory) }
+    // No block is written.
     ensures writes { (B.view board.new).writes ≡ (B.view board.old).writes }
     ensures called { (B.view board.new).fuse ≡ fuse_after_call (B.view board.old).fuse }
     // no block is written

@@ -1,4 +1,4 @@
-//! The second of the three steps that end a commit: the header of the spare slot is laid, behind its shut gate.
+//! The second of the three steps that end a commit: the header of the spare slot is laid, while its gate is shut.
 ghost use Rattle.std.specs.Prelude.{◌≡◌, ◌≢◌, ◌≤◌, ◌<◌, ◌+◌, ◌%◌, ℕ, Bool, true, false, List, OnOk, is_ok};
 ghost use Rattle.tee_base.specs.Crash.{LeavesOnly};
 ghost use Rattle.board.specs.Moment.{View, moment, left_since};
@@ -23,6 +23,7 @@ use seal::Keys;
 ///
 /// A call of the board failed. The header's block may then read as anything.
 pub fn lay<B: Board>(board: &mut B, header: &Header) -> Result<(), BoardFailed>
+    // The board has blocks for both headers and both gates.
     requires { 4 ≤ (B.view board.old).size }
     ensures calls { CallRun (is_ok result) (B.view board.old) (B.view board.new) }
     ensures writes { (B.view board.new).writes ≡ up_to_limit ((B.view board.old).writes + 1) }
@@ -42,7 +43,7 @@ pub fn lay<B: Board>(board: &mut B, header: &Header) -> Result<(), BoardFailed>
         → open_at (header_at (header.now.sequence % 2)) ≡ true
         → RunsOver open_at base low high first (B.view board.old)
         → RunsOver open_at base low high first (B.view board.new) }
-    // behind a gate that isn't open all that a crash leaves opens as before
+    // while the gate isn't open, all that a crash leaves opens as before
     ensures crash { B.honest board.old → (knows : ℕ → Bool) (n : ℕ)
         → Rests n (B.view board.old).state
         → gate_open ((B.view board.old).state.reads (gate_at (header.now.sequence % 2))) ≡ false

@@ -27,10 +27,12 @@ use board::Board;
 ///
 /// As `find_header`.
 pub fn mount<B: Board>(board: &mut B, format: Format) -> Result<Option<Header>, OpenAnswer>
+    // The format has blocks for both headers and both gates.
     requires slots { 4 ≤ format.blocks }
     ensures search { Searches format result (B.view board.old) (B.view board.new) }
     ensures honest { B.honest board.old → B.honest board.new
         × SearchesHonestly result (B.view board.old) (B.view board.new) }
+    // Under Ok the board has the blocks of the format.
     ensures size { OnOk result (format.blocks ≤ (B.view board.old).size) }
     ensures settled { B.honest board.old
         → StaysSettled (B.view board.old).state (B.view board.new).state }
@@ -62,8 +64,10 @@ pub fn mount<B: Board>(board: &mut B, format: Format) -> Result<Option<Header>, 
 ///
 /// As `find_header`, and `Failed` where the sync failed.
 pub fn mount_again<B: Board>(board: &mut B, format: Format) -> Result<Option<Header>, OpenAnswer>
+    // The format has blocks for both headers and both gates.
     requires slots { 4 ≤ format.blocks }
     ensures search { Searches format result (B.view board.old) (B.view board.new) }
+    // On an honest board each block reads as before.
     ensures reads { B.honest board.old
         → (B.view board.new).state.reads ≡ (B.view board.old).state.reads }
     // no block changes, at any moment
@@ -72,6 +76,7 @@ pub fn mount_again<B: Board>(board: &mut B, format: Format) -> Result<Option<Hea
     // at Ok the board rests, and the counter is the sequence
     ensures rests { B.honest board.old
         → IfOk result (λ header. Rests (sequence_of header) (B.view board.new).state) }
+    // An honest board stays honest.
     ensures honest { B.honest board.old → B.honest board.new }
     ensures past { B.honest board.old → KeepsPast (B.view board.old) (B.view board.new) }
     // a crash leaves nothing that it might not have left before
@@ -105,9 +110,12 @@ pub fn mount_after_power<B: Board>(
     pick: u64,
     format: Format,
 ) -> Result<Option<Header>, OpenAnswer>
+    // The format has blocks for both headers and both gates.
     requires slots { 4 ≤ format.blocks }
     ensures calls { LosesPower pick (no_failure result) (B.view board.old) (B.view board.new) }
+    // No block is written.
     ensures writes { (B.view board.new).writes ≡ (B.view board.old).writes }
+    // Want of memory never comes.
     ensures memory { result ≢ Err answers.NoMemory }
     ensures accepted { IfOk result (λ header. IsAccepted format header) }
     ensures honest { B.honest board.old → B.honest board.new

@@ -47,17 +47,18 @@ pub trait BoardVolume<B: Board>: Volume + Sized {
     ///
     /// As the opening rule refuses; `Failed` where a call of the board failed; `NoMemory`. The board is handed back.
     fn open(alloc: Global, board: B) -> Result<Self, Unopened<B>>
+        // Under Ok the volume isn't lost.
         ensures fresh { IfOk result (λ v. (Self.keeper.condition v).lost ≡ false) }
         ensures calls { IfOk result (λ v. CallRun true (B.view board) (B.view (board_of v))) }
         ensures back { IfErr result (λ u. HandsBack u.why (B.view board) (B.view u.board)) }
-        // behind the slots what it never writes stays, at every moment too
+        // after the slots, what it never writes stays, at every moment too
         ensures honest { B.honest board → IfOk result (λ v. B.honest (board_of v)
             × OpensHonestly (λ k. (3 < k) × untouched k) (Self.keeper.held v).sequence
             (B.view board) (B.view (board_of v))) }
         ensures honest_back { B.honest board → IfErr result (λ u. B.honest u.board
             × HandsBackByRule form (λ k. (3 < k) × untouched k) u.why
             (B.view board) (B.view u.board)) }
-        // whatever the board: by the rule over what it tells, at some counter; what is refused of the leaves behind the
+        // whatever the board: by the rule over what it tells, at some counter; what is refused of the leaves under the
         // header is by what the board that is handed back tells
         ensures rule { IsTrue B.tells_reads → (counter : ℕ)
             × IfErr result (λ u. IsRefusalOver form (B.view board)
@@ -103,7 +104,9 @@ pub trait BoardVolume<B: Board>: Volume + Sized {
             × ReopensByRule form (λ k. (3 < k) × untouched k) result (root self.new)
             (Self.keeper.held self.new) (B.view (board_of self.old))
             (B.view (board_of self.new)) }
+        // Under Err the root is as it was.
         ensures root { OnErr result (root self.new ≡ root self.old) }
+        // Under Ok no node is kept, so what is kept fits every image.
         ensures bare { OnOk result ((image : ℕ → List ℕ) → keeps self.new image) }
         ensures opened { B.honest (board_of self.old) → IsAlwaysSound Self.keeper form self.old
             → OpensAgain Self.keeper result self.old self.new };
@@ -125,21 +128,26 @@ pub trait BoardVolume<B: Board>: Volume + Sized {
             × LosesPowerByRule form (λ k. (3 < k) × untouched k) pick (shows_kept result) result
             (λ told. IsReopened form told (root self.new)) (Self.keeper.held self.new)
             (B.view (board_of self.old)) (B.view (board_of self.new)) }
+        // Under Err the root is as it was.
         ensures root { OnErr result (root self.new ≡ root self.old) }
+        // Under Ok no node is kept, so what is kept fits every image.
         ensures bare { OnOk result ((image : ℕ → List ℕ) → keeps self.new image) }
         ensures opened { B.honest (board_of self.old) → IsAlwaysSound Self.keeper form self.old
             → OpensAfterPower Self.keeper form (B.view (board_of self.old))
             (B.view (board_of self.new)) result self.old self.new };
 
-    /// Lets so many calls of the board pass, as the board's `fuse` does. It makes no other call.
+    /// Lets this many calls of the board pass, as the board's `fuse` does. It makes no other call.
     fn fuse(&mut self, calls: u32)
+        // The root is as it was.
         ensures root { root self.new ≡ root self.old }
         ensures fuse { (B.view (board_of self.new)).fuse
             ≡ fuse_after_set (B.view (board_of self.old)).fuse calls }
         ensures ordered { OrderRun calls (B.view (board_of self.old))
             (B.view (board_of self.new)) }
+        // It is lost exactly where it was.
         ensures lost { (Self.keeper.condition self.new).lost
             ≡ (Self.keeper.condition self.old).lost }
+        // The sequence is as it was.
         ensures sequence { (Self.keeper.held self.new).sequence
             ≡ (Self.keeper.held self.old).sequence }
         // on an honest board the clock goes on by one moment, and nothing else changes

@@ -23,9 +23,12 @@ use board::{Board, BoardFailed};
 ///
 /// A call of the board failed. The gate may then read as anything if it was open.
 pub fn shut<B: Board>(board: &mut B, slot: u8) -> Result<(), BoardFailed>
+    // There are two slots.
     requires slot { slot < 2 }
+    // The board has blocks for both headers and both gates.
     requires size { 4 ≤ (B.view board.old).size }
     ensures calls { CallRun (is_ok result) (B.view board.old) (B.view board.new) }
+    // At most one write is made.
     ensures writes { (B.view board.new).writes ≤ (B.view board.old).writes + 1 }
     ensures unwritten { IsTrue B.tells_reads
         → gate_open ((B.view board.old).state.reads (gate_at slot)) ≡ false
@@ -69,7 +72,9 @@ pub fn shut<B: Board>(board: &mut B, slot: u8) -> Result<(), BoardFailed>
 ///
 /// A call of the board failed. The gate may then read as anything, and the counter may be raised where it is open.
 pub fn flip<B: Board>(board: &mut B, slot: u8) -> Result<u64, BoardFailed>
+    // There are two slots.
     requires slot { slot < 2 }
+    // The board has blocks for both headers and both gates.
     requires size { 4 ≤ (B.view board.old).size }
     ensures calls { CallRun (is_ok result) (B.view board.old) (B.view board.new) }
     ensures writes { (B.view board.new).writes ≡ up_to_limit ((B.view board.old).writes + 1) }
@@ -89,7 +94,7 @@ pub fn flip<B: Board>(board: &mut B, slot: u8) -> Result<u64, BoardFailed>
         ≡ opening_of knows (B.view board.old).key (B.view board.old).state.reads n)
         ⊎ (outcome_opening knows (B.view board.old).key c
         ≡ Ok (Some (record { header = header; slot = slot })))) }
-    // at Ok it opens to that header, at the counter that was told
+    // at Ok it opens to that header, at the counter that was reported
     ensures opened { B.honest board.old → IfOk result (λ m.
         (knows : ℕ → Bool) (n : ℕ) (header : HeaderValue)
         → IsLaid knows (B.view board.old).key slot n header (B.view board.old).state

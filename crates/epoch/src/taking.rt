@@ -12,7 +12,7 @@ pub const NO_ROOT: TreeEntry = TreeEntry {
     tag: [0; 32],
 };
 
-/// What is told of a volume that was opened again.
+/// What is reported of a volume that was opened again.
 #[derive(Clone, Copy, Debug, PartialEq, Eq)]
 pub struct Reopened {
     /// The sequence of the header that was found, 0 where none counts.
@@ -21,7 +21,7 @@ pub struct Reopened {
     pub rewritten: bool,
 }
 
-/// What is told of the header that was found, where a header of this version is taken up as it is.
+/// What is reported of the header that was found, where a header of this version is taken up as it is.
 pub fn reopened_from(found: Option<Header>, version: u32) -> Reopened
     ensures { result ≡ reopened_of version found }
 {

@@ -14,7 +14,7 @@ pub const TRIES: u8 = 3;
 /// How many bytes a PIN has at most.
 pub const MAX_PIN_BYTES: usize = 16;
 
-/// A guess that was compared: the object, the tries that are left behind it, and whether it is right.
+/// A guess that was compared: the object, the tries that are left after it, and whether it is right.
 #[derive(Clone, Copy, Debug)]
 pub struct Attempt {
     pub object: u32,

@@ -1,4 +1,4 @@
-//! Handles as they are kept, and what is told of them.
+//! Handles as they are kept, and what is reported of them.
 
 use share_rules::Share;
 use std::mem;
@@ -54,7 +54,9 @@ impl Handle {
 
     /// Puts it on the object of another identifier, and hands back the identifier and the flags that it had.
     pub fn move_to(&mut self, to: Bytes) -> Option<Share>
+        // It is the identifier before, with the flags.
         ensures before { result ≡ share_of self.old }
+        // The handle is on the other identifier, and else as it was.
         ensures after { self.new ≡ with_identifier to self.old }
     {
         match self {

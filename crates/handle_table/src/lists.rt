@@ -1,4 +1,4 @@
-//! The lists behind the table, each read or changed by one scan.
+//! The lists of the table, each read or changed by one scan.
 
 ghost use Rattle.std.specs.Prelude.{◌≡◌, ◌≤◌, ◌<◌, ◌++◌, ◌∷◌, [], IsTrue, not, filter, count_by, position, option_map, option_to_list, Some, OnOk, OnErr, IfOk};
 ghost use Rattle.handle_table.specs.Handles.{is_of, is_at, goes, free_number, share_at, change_first, entry_sought, entry_moved, is_held, Forgets, HoldsFor, shares_of, pending_share, ended_by};

@@ -45,7 +45,9 @@ impl HandleTable {
 
     /// Whether a handle with these flags may be opened on the object, beside those of all instances. It takes no memory.
     pub fn may_open(&self, id: &[u8], flags: Flags) -> bool
+        // No rename is pending.
         requires { self.now.pending ≡ None }
+        // It is so exactly where the flags go with those of each handle that is open on the object.
         ensures { result ≡ may_open self.now id.now flags }
     {
         self.shares.may_open(id, flags)
@@ -72,12 +74,18 @@ impl HandleTable {
     ///
     /// Full exactly where the instance has 16 handles. Both errors change nothing.
     pub fn add(&mut self, instance: u8, id: &[u8], flags: Flags) -> Result<u32, HandleAnswer>
+        // No rename is pending.
         requires no_rename { self.old.pending ≡ None }
+        // Such a handle may be opened.
         requires may_open { IsTrue (may_open self.old id.now flags) }
+        // Under Ok it is the lowest number from 1 on that is free in the instance.
         ensures number { IfOk result (λ n. n ≡ free_number self.old.handles instance) }
+        // Under Ok the table has a handle on the object, at its first byte, under that number.
         ensures ok { OnOk result (self.new
             ≡ with_handle self.old instance (on_object id.now flags 0)) }
+        // Full is answered exactly where the instance has no number free.
         ensures full { (result ≡ Err HandleAnswer.Full) ↔ IsTrue (is_full self.old instance) }
+        // Under Err the table is as it was.
         ensures unchanged { OnErr result (self.new ≡ self.old) }
     {
         if self.is_full(instance) {
@@ -109,10 +117,15 @@ impl HandleTable {
     ///
     /// As those of `add`.
     pub fn add_transient(&mut self, instance: u8) -> Result<u32, HandleAnswer>
+        // No rename is pending.
         requires { self.old.pending ≡ None }
+        // Under Ok it is the lowest number from 1 on that is free in the instance.
         ensures number { IfOk result (λ n. n ≡ free_number self.old.handles instance) }
+        // Under Ok the table has a handle on an object in memory under that number.
         ensures ok { OnOk result (self.new ≡ with_handle self.old instance in_memory) }
+        // Full is answered exactly where the instance has no number free.
         ensures full { (result ≡ Err HandleAnswer.Full) ↔ IsTrue (is_full self.old instance) }
+        // Under Err the table is as it was.
         ensures unchanged { OnErr result (self.new ≡ self.old) }
     {
         if self.is_full(instance) {
@@ -136,8 +149,11 @@ impl HandleTable {
 
     /// Sets where the next read or write of the handle begins. It takes no memory.
     pub fn seek(&mut self, instance: u8, number: u32, position: u32)
+        // No rename is pending.
         requires no_rename { self.old.pending ≡ None }
+        // There is such a handle.
         requires there { IsTrue (is_there self.old instance number) }
+        // The handle is at that position, and all else stays.
         ensures { self.new ≡ sought_at self.old instance number position }
     {
         lists::seek(&mut self.handles, instance, number, position);
@@ -145,8 +161,11 @@ impl HandleTable {
 
     /// Closes the handle. It takes no memory.
     pub fn close(&mut self, instance: u8, number: u32)
+        // No rename is pending.
         requires no_rename { self.old.pending ≡ None }
+        // There is such a handle.
         requires there { IsTrue (is_there self.old instance number) }
+        // The handle is gone, and all else stays.
         ensures { self.new ≡ without_handle self.old instance number }
     {
         let closing = Closing::One { instance, number };
@@ -156,7 +175,9 @@ impl HandleTable {
 
     /// Closes all handles of the instance. It takes no memory.
     pub fn close_all(&mut self, instance: u8)
+        // No rename is pending.
         requires { self.old.pending ≡ None }
+        // The handles of the instance are gone, and all else stays.
         ensures { self.new ≡ all_closed self.old instance }
     {
         let closing = Closing::All { instance };
@@ -170,10 +191,15 @@ impl HandleTable {
     ///
     /// NoMemory changes nothing.
     pub fn start_rename(&mut self, instance: u8, number: u32, to: &[u8]) -> Result<(), NoMemory>
+        // No rename is pending.
         requires no_rename { self.old.pending ≡ None }
+        // It is the only handle on its object.
         requires alone { IsTrue (is_alone self.old instance number) }
+        // No handle is on the other identifier.
         requires free { IsTrue (not (is_open self.old to.now)) }
+        // Under Ok the rename is pending.
         ensures ok { OnOk result (self.new ≡ rename_started self.old instance number to.now) }
+        // Under Err the table is as it was.
         ensures unchanged { OnErr result (self.new ≡ self.old) }
     {
         let rename = Rename {
@@ -189,7 +215,9 @@ impl HandleTable {
     /// Ends the rename that is pending: where it took, the handle is on the new identifier, else all is as before. It
     /// takes no memory.
     pub fn end_rename(&mut self, took: bool)
+        // A rename is pending.
         requires { IsTrue (is_some self.old.pending) }
+        // No rename is pending then; the handle is on the new identifier where it took, and all else stays.
         ensures { self.new ≡ rename_ended self.old took }
     {
         if let Some(rename) = self.pending.take() {

@@ -1,4 +1,4 @@
-//! What a board holds, told to people: its volume, the objects of each region, and where it is damaged.
+//! What a board holds, for people: its volume, the objects of each region, and where it is damaged.
 #![tactic(auto)]
 
 mod opening;

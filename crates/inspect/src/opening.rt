@@ -29,7 +29,7 @@ pub struct Facts {
     pub counter: u64,
 }
 
-/// A volume that was opened, and what is told of it.
+/// A volume that was opened, and what is reported of it.
 #[derive(Drop)]
 pub struct Opened<B: Board> {
     pub facts: Facts,
@@ -62,7 +62,7 @@ pub enum Unread {
     Refused(OpenAnswer),
 }
 
-/// Opens the volume of a board whose counter was told.
+/// Opens the volume of a board whose counter was read.
 fn open_at<B: Board + Drop>(alloc: Global, board: B, counter: u64) -> Result<Opened<B>, Unread>
     ensures unread { B.honest board → IfErr result (λ why. IsUnread (B.view board) why) }
     ensures counter { IfOk result (λ o. o.facts.counter ≡ counter) }

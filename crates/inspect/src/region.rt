@@ -56,6 +56,7 @@ pub fn objects_of<V: Volume>(
     volume: &mut V,
     number: u8,
 ) -> Result<Vec<Listed>, StoreAnswer>
+    // The region is one of the volume.
     requires { number < MAX_HOSTS }
     // they are those that the leaves stand for, as these are found
     ensures listed { IsTrue V.keeper.tells_reads → IfOk result (λ objects.
@@ -67,6 +68,7 @@ pub fn objects_of<V: Volume>(
     // nothing is written, and what is found of each leaf stays
     ensures writes { (V.keeper.condition volume.new).writes
         ≡ (V.keeper.condition volume.old).writes }
+    // Where the volume tells its text, this is as it was.
     ensures text { IsTrue V.keeper.tells_reads
         → V.keeper.text volume.new ≡ V.keeper.text volume.old }
 {

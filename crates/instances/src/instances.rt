@@ -140,7 +140,9 @@ impl Instances {
 
     /// Enters the session that was admitted, as opening and with its client's login, and its instance where that is new.
     pub fn enter(&mut self, client: u8, label: u32, login: &Login, admission: Admission)
+        // It is the admission that the table gives for this client and label.
         requires { admission_of self.old client label ≡ Ok admission }
+        // The table is the one before, with the session and, where it is new, its instance.
         ensures { self.new ≡ with_session self.old client label login.now admission }
     {
         tables::add_instance(&mut self.slots, admission);

@@ -33,6 +33,7 @@ impl Default for SessionState {
     ghost use Rattle.std.specs.Prelude.{◌≡◌};
 
     fn default() -> SessionState
+        // It is opening.
         ensures { result ≡ SessionState.Opening }
     {
         SessionState::Opening
@@ -73,7 +74,7 @@ impl Session {
         }
     }
 
-    /// What is told of it.
+    /// What is reported of it.
     pub fn facts(&self) -> SessionFacts
         ensures { result ≡ facts_of self.now }
     {

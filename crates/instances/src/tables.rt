@@ -1,4 +1,4 @@
-//! The lists behind the tables, each read or rebuilt by one scan.
+//! The lists of the tables, each read or rebuilt by one scan.
 
 ghost use Rattle.std.specs.Prelude.{◌≡◌, ◌==◌, ◌≤◌, ◌<◌, [], ◌∷◌, ◌++◌, true, false, if◌then◌else◌, not, filter, map, find, option_map, length};
 ghost use Rattle.tee_base.specs.Numbers.{lowest_free};

@@ -44,7 +44,7 @@ pub fn kept_flags(flags: u32) -> Flags
     Flags(flags & KEPT)
 }
 
-/// The position that so many bytes lead to.
+/// The position that this many bytes lead to.
 pub fn behind(position: u32, count: usize) -> u32
     ensures { result ≡ min (position + count) MAX_POSITION }
 {

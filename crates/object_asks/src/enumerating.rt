@@ -91,7 +91,7 @@ pub fn start<T: AppStore>(
     told(start_found(held, store, instance, list), false)
 }
 
-/// Gives the next object behind the last one.
+/// Gives the next object after the last one.
 fn give_next<T: AppStore>(
     alloc: Global,
     held: &mut Held,

@@ -92,7 +92,7 @@ pub fn restrict(held: &mut Held, instance: u8, object: u32, usage: u32) -> Outco
     done()
 }
 
-/// What is told of a secret.
+/// What is reported of a secret.
 fn tell_secret(alloc: Global, key: &ObjectKey, room: u32) -> Result<Outcome, NoMemory>
     ensures { (held : HeldValue) (contents : Contents) → IfOk result (λ outcome.
         IsOutcome outcome (secret_told (objects_in held contents) room key.now)

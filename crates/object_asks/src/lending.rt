@@ -32,7 +32,7 @@ fn plainly(found: KeyLook) -> KeyServed
     }
 }
 
-/// What is told, by what the store's answer gives.
+/// What is answered, by what the store's answer gives.
 fn tell(given: Result<ObjectKey, StoreAnswer>) -> Result<KeyServed, NoMemory>
     ensures ok { IfOk result (λ served. key_told given ≡ Some served) }
     ensures err { OnErr result (key_told given ≡ None) }

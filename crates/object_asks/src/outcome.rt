@@ -86,7 +86,7 @@ pub fn panicked() -> Served
     Served::plain(Outcome::Panicked)
 }
 
-/// How an application is told of what a store answers in place of a result.
+/// How an application learns of what a store answers in place of a result.
 pub fn code_of(answer: StoreAnswer) -> Code
     ensures { result ≡ code_of answer }
 {

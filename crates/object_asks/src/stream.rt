@@ -28,7 +28,7 @@ const CURRENT: u32 = 1;
 
 const END: u32 = 2;
 
-/// Reads from the position on, and the handle stands behind what was read.
+/// Reads from the position on, and the handle stands after what was read.
 fn read_on<T: AppStore>(
     held: &mut Held,
     store: &mut T,
@@ -90,7 +90,7 @@ pub fn read<T: AppStore>(
     )
 }
 
-/// Writes the bytes at the position, and the handle stands behind them.
+/// Writes the bytes at the position, and the handle stands after them.
 fn write_through<T: AppStore>(
     held: &mut Held,
     store: &mut T,

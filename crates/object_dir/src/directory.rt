@@ -52,11 +52,17 @@ pub struct ObjectDir<'v, V> {
 impl<'v, V: Volume> ObjectDir<'v, V> {
     /// The objects of a region of a volume. It takes no memory; its calls take theirs from this allocator.
     pub fn of(alloc: Global, volume: &'v mut V, region: u8) -> ObjectDir<'v, V>
+        // The region is one of the volume.
         requires { region < MAX_HOSTS }
+        // It reads and writes this volume.
         ensures volume { result.region.volume.now ≡ volume.old }
+        // What becomes of the volume comes back to the caller, whose reference it holds.
         ensures same_reference { result.region.volume.ghost_name ≡ volume.entry.ghost_name }
+        // It reads and writes this region.
         ensures region { result.region.number ≡ region }
+        // It has reported no damage yet.
         ensures reports { result.damage_reports ≡ 0 }
+        // It has attempted no change yet.
         ensures attempts { result.change_attempts ≡ 0 }
     {
         ObjectDir {
@@ -72,7 +78,9 @@ impl<'v, V: Volume> ObjectDir<'v, V> {
 
     /// The volume that it was made of. Who ends it so knows that the volume holds what it held at the last call.
     pub fn into_volume(self) -> &'v mut V
+        // The volume is as the store left it.
         ensures volume { result.now ≡ self.entry.region.volume.now }
+        // It is the reference that the store was made of.
         ensures same_reference { result.ghost_name ≡ self.entry.region.volume.ghost_name }
     {
         let ObjectDir { region, .. } = self;
@@ -123,6 +131,7 @@ impl<V: Volume> AppStore for ObjectDir<'_, V> {
 
     fn read(&mut self, id: &[u8], from: u32, count: u32) -> Result<Bytes, StoreAnswer>
         requires id { IsIdentifier id.now }
+        // No more is asked for than an ask may.
         requires count { count ≤ MAX_ASK_BYTES }
         ensures reads { Reads (dir_keeper V.keeper) (λ store. read_at store id.now from count)
             (IsPart count) result self.old self.new }

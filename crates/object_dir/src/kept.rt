@@ -129,8 +129,8 @@ fn is_garbled(why: Option<StoreAnswer>) -> bool
     }
 }
 
-/// At most so many bytes of an object's content, from a place on. Where a leaf of it breaks a rule by the directory that is
-/// kept, it looks anew, so that what it tells is told of the leaves.
+/// At most this many bytes of an object's content, from a place on. Where a leaf of it breaks a rule by the directory that is
+/// kept, it looks anew, so that what it reports is of the leaves.
 pub(crate) fn read_in<V: Volume>(
     alloc: Global,
     region: &mut Region<'_, V>,
@@ -161,7 +161,7 @@ pub(crate) fn read_in<V: Volume>(
     answer
 }
 
-/// The next object behind the last one.
+/// The next object after the last one.
 pub(crate) fn next_in<V: Volume>(
     alloc: Global,
     region: &mut Region<'_, V>,

@@ -33,12 +33,19 @@ impl<'v, V: Volume> KeptDir<'v, V> {
     /// The objects of a region of a volume, with what `into_volume` left of this region and this volume, or nothing. It
     /// takes no memory; its calls take theirs from this allocator.
     pub fn of(alloc: Global, volume: &'v mut V, region: u8, kept: Option<Kept>) -> KeptDir<'v, V>
+        // The region is one of the volume.
         requires { region < MAX_HOSTS }
+        // It reads and writes this volume.
         ensures volume { result.region.volume.now ≡ volume.old }
+        // What becomes of the volume comes back to the caller, whose reference it holds.
         ensures same_reference { result.region.volume.ghost_name ≡ volume.entry.ghost_name }
+        // It reads and writes this region.
         ensures region { result.region.number ≡ region }
+        // It keeps what was handed in.
         ensures kept { result.kept ≡ kept }
+        // It has reported no damage yet.
         ensures reports { result.damage_reports ≡ 0 }
+        // It has attempted no change yet.
         ensures attempts { result.change_attempts ≡ 0 }
     {
         KeptDir {
@@ -56,8 +63,11 @@ impl<'v, V: Volume> KeptDir<'v, V> {
     /// The volume that it was made of; what is kept goes into this place. Who ends it so knows that the volume holds what it
     /// held at the last call.
     pub fn into_volume(self, left: &mut Option<Kept>) -> &'v mut V
+        // The volume is as the store left it.
         ensures volume { result.now ≡ self.entry.region.volume.now }
+        // It is the reference that the store was made of.
         ensures same_reference { result.ghost_name ≡ self.entry.region.volume.ghost_name }
+        // The place has what the store kept.
         ensures kept { left.new ≡ self.entry.kept }
     {
         let KeptDir { region, kept, .. } = self;
@@ -110,6 +120,7 @@ impl<V: Volume> AppStore for KeptDir<'_, V> {
 
     fn read(&mut self, id: &[u8], from: u32, count: u32) -> Result<Bytes, StoreAnswer>
         requires id { IsIdentifier id.now }
+        // No more is asked for than an ask may.
         requires count { count ≤ MAX_ASK_BYTES }
         ensures reads { Reads (kept_keeper V.keeper) (λ store. read_at store id.now from count)
             (IsPart count) result self.old self.new }

@@ -1,4 +1,4 @@
-//! Operations as they are kept, and what is told of them.
+//! Operations as they are kept, and what is reported of them.
 
 ghost use Rattle.std.specs.Prelude.{◌≡◌};
 ghost use Rattle.op_queue.specs.Queue as queue;
@@ -37,6 +37,7 @@ impl Progress {
     }
 
     pub fn is_running(&self) -> bool
+        // It is true exactly where an entry runs.
         ensures { result ≡ is_running self.now }
     {
         match self {
@@ -97,7 +98,7 @@ impl Operation {
         self.client == client && self.references.name(block)
     }
 
-    /// What is told of it.
+    /// What is reported of it.
     pub fn facts(&self) -> OpFacts
         ensures { result ≡ facts_of self.now }
     {
@@ -113,7 +114,9 @@ impl Operation {
 
     /// Hands out the call where it waits; from then on it runs, masked.
     pub fn start(&mut self) -> Option<Begun>
+        // The call is handed out exactly where it waits.
         ensures begun { result ≡ begun_of self.old self.old.progress }
+        // The operation then runs, masked; one that didn't wait stays.
         ensures after { self.new ≡ as_running self.old.number self.old }
     {
         let close = self.progress.is_close();
@@ -144,7 +147,9 @@ impl Operation {
 
     /// Sets the mask where an entry runs, and answers what it was.
     pub fn set_mask(&mut self, value: bool) -> bool
+        // It is the mask before, and true where no entry runs.
         ensures before { result ≡ mask_of self.old.progress }
+        // The operation has this mask where it runs, and else is as it was.
         ensures after { self.new ≡ masked_as self.old.number value self.old }
     {
         match &mut self.progress {
@@ -163,7 +168,7 @@ pub struct Begun {
     pub call: Call,
 }
 
-/// What is told of an operation.
+/// What is reported of an operation.
 #[derive(Clone, Copy, Debug, PartialEq, Eq)]
 pub struct OpFacts {
     pub client: u8,

@@ -44,7 +44,9 @@ impl OpQueue {
 
     /// A law: what the queue keeps.
     pub fn bounds(&self)
+        // The rules of a queue hold.
         ensures kept { IsQueue self.now }
+        // There are at most 24 operations.
         ensures all { length self.now.operations ≤ MAX_OPERATIONS + MAX_SESSIONS }
     {
         let _ = &self.next;
@@ -64,12 +66,16 @@ impl OpQueue {
         session: u8,
         call: Call,
     ) -> Result<u64, QueueAnswer>
+        // A number is left.
         requires { self.old.next ≤ MAX_NUMBER }
+        // Under Ok the answer is the next number, and the queue has the operation under it.
         ensures ok { IfOk result (λ n.
             (n ≡ self.old.next)
             × (self.new ≡ with_operation self.old client instance session call)) }
+        // Full is answered exactly where the queue is full and the call is no close.
         ensures full { (result ≡ Err QueueAnswer.Full) ↔ IsTrue
             (is_full self.old && not (is_close_call call)) }
+        // Under Err the queue is as it was.
         ensures unchanged { OnErr result (self.new ≡ self.old) }
     {
         if !is_close_call(&call)
@@ -102,8 +108,11 @@ impl OpQueue {
 
     /// Takes the next number, for a call that is refused at once.
     pub fn skip(&mut self) -> u64
+        // A number is left.
         requires { self.old.next ≤ MAX_NUMBER }
+        // It is the next number.
         ensures number { result ≡ self.old.next }
+        // The queue is as it was, but that the number is used.
         ensures after { self.new ≡ with_number_used self.old }
     {
         let number = self.next;
@@ -113,14 +122,16 @@ impl OpQueue {
 
     /// Hands out the call of the instance's operation with the least number that waits. From then on it runs, masked.
     pub fn begin(&mut self, instance: u8) -> Option<Begun>
+        // It is the call of the first operation of the instance that waits, if one does.
         ensures begun { result ≡ begun_at (first_waiting self.old instance) }
+        // That operation then runs, masked, and the others stay.
         ensures after { self.new ≡ after_begin self.old (first_waiting self.old instance) }
     {
         let index = scans::place_of_waiting(self.operations.as_slice(), instance)?;
         self.operations[index].start()
     }
 
-    /// What is told of the operation; none exactly where it isn't unanswered.
+    /// What is reported of the operation; none exactly where it isn't unanswered.
     pub fn facts(&self, op: u64) -> Option<OpFacts>
         ensures { result ≡ option_map facts_of (operation_of self.now op) }
     {
@@ -149,7 +160,9 @@ impl OpQueue {
 
     /// Asks for the operation to be cancelled.
     pub fn cancel(&mut self, op: u64) -> Cancelled
+        // The answer is the definition's, by the operation of this number.
         ensures answer { result ≡ cancel_of (operation_of self.old op) }
+        // The queue is that of the definition, by the answer.
         ensures after { self.new ≡ after_cancel self.old op result }
     {
         let Some(index) = scans::place_of(self.operations.as_slice(), op) else {
@@ -169,7 +182,9 @@ impl OpQueue {
     /// Masks cancellation for the running entry, and answers whether it was. Where there is no such operation, or it
     /// waits, nothing changes, and the answer is true.
     pub fn mask(&mut self, op: u64) -> bool
+        // It is the mask before, and true where no such entry runs.
         ensures before { result ≡ mask_at self.old op }
+        // The running entry is masked, and all else stays.
         ensures after { self.new ≡ mask_set self.old op true }
     {
         self.set_mask(op, true)
@@ -178,7 +193,9 @@ impl OpQueue {
     /// Unmasks cancellation for the running entry, and answers whether it was masked. Where there is no such operation,
     /// or it waits, nothing changes, and the answer is true.
     pub fn unmask(&mut self, op: u64) -> bool
+        // It is the mask before, and true where no such entry runs.
         ensures before { result ≡ mask_at self.old op }
+        // The running entry is unmasked, and all else stays.
         ensures after { self.new ≡ mask_set self.old op false }
     {
         self.set_mask(op, false)

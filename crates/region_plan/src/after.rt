@@ -168,8 +168,10 @@ impl Directory {
     ///
     /// `Garbled` of a leaf that breaks a rule, which none of a plan does; `NoMemory`.
     pub fn after(self, alloc: Global, named: &Leaves) -> Result<Directory, StoreAnswer>
+        // The directory is of the second form.
         requires form { self.form ≡ Two }
         requires bounded { IsBounded self }
+        // Under Ok the new one is of the second form too.
         ensures form { IfOk result (λ after. after.form ≡ Two) }
         ensures bounded { IfOk result (λ after. IsBounded after) }
         ensures told { (leaves : ℕ → List ℕ) → IsDirectoryOf leaves self

@@ -7,6 +7,7 @@ ghost use Rattle.region_plan.specs.Parts.{part, with_bytes_at, are_zero};
 
 /// The number that four bytes from a place on are.
 pub fn number_at(bytes: &[u8], at: usize) -> u32
+    // The four bytes lie within the bytes.
     requires { at + 4 ≤ length bytes.now }
     ensures { result ≡ from_le_bytes w32 (part at 4 bytes.now) }
 {
@@ -15,7 +16,7 @@ pub fn number_at(bytes: &[u8], at: usize) -> u32
     u32::from_le_bytes(piece)
 }
 
-/// Whether all bytes are zero. It goes on behind one that isn't, since many are looked at at a time so.
+/// Whether all bytes are zero. It goes on after one that isn't, since many are looked at at a time so.
 pub fn all_zero(bytes: &[u8]) -> bool
     ensures { result ≡ are_zero bytes.now }
 {

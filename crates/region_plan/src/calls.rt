@@ -1,4 +1,4 @@
-//! What is told of the objects of a region.
+//! What is reported of the objects of a region.
 
 ghost use Rattle.std.specs.Prelude.{◌≡◌, ◌≤◌, ℕ, List, length, IfSome, option_copied};
 ghost use Rattle.std.specs.List.{All};
@@ -22,7 +22,7 @@ use std::alloc::Global;
 use store_api::{Facts, Listed, StoreAnswer};
 use tee_base::Bytes;
 
-/// What is told of an object.
+/// What is reported of an object.
 fn facts_of(form: Form, inode: &Inode) -> Facts
     requires { IsWithin (layout form) inode.now }
     ensures { result ≡ inode_facts inode.now }

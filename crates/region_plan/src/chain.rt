@@ -75,7 +75,7 @@ fn put_link(links: &mut Vec<u16>, index: usize, link: u16)
     }
 }
 
-/// Links to the first data leaf of an inode at each of so many indexes.
+/// Links to the first data leaf of an inode at this many indexes.
 pub(crate) fn first_links(
     alloc: Global,
     form: Form,

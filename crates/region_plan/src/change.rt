@@ -24,8 +24,10 @@ impl Directory {
         from: &mut L,
         change: &Change,
     ) -> Result<Leaves, StoreAnswer>
+        // The directory is of the second form.
         requires form { self.now.form ≡ Two }
         requires fits { (layout Two).leaves ≤ L.keeper.leaves }
+        // What the leaves are read from isn't lost.
         requires works { (L.keeper.condition from.old).lost ≡ false }
         requires bounded { IsBounded self.now }
         requires change { IsChange change.now }

@@ -39,7 +39,7 @@ fn linked_leaf(links: &[u16], index: u32) -> Option<u16>
     if link == 0 { None } else { Some(link - 1) }
 }
 
-/// Whether a leaf has zeros behind so many bytes.
+/// Whether a leaf has zeros after this many bytes.
 fn is_zero_behind(block: &[u8; BLOCK_BYTES], used: usize) -> bool
     ensures { result ≡ are_zero (drop used (take BLOCK_BYTES block.now)) }
 {
@@ -144,7 +144,7 @@ fn read_between<L: LeafSource>(
 }
 
 impl Directory {
-    /// At most so many bytes of an object's content, from a place on. `NotFound` exactly where there is no such object.
+    /// At most this many bytes of an object's content, from a place on. `NotFound` exactly where there is no such object.
     pub fn content<L: LeafSource>(
         &self,
         alloc: Global,
@@ -154,8 +154,10 @@ impl Directory {
         count: u32,
     ) -> Result<Bytes, StoreAnswer>
         requires fits { (layout self.now.form).leaves ≤ L.keeper.leaves }
+        // What the leaves are read from isn't lost.
         requires works { (L.keeper.condition from.old).lost ≡ false }
         requires bounded { IsBounded self.now }
+        // No more is asked for than an ask may.
         requires count { count ≤ MAX_ASK_BYTES }
         ensures reads { ReadsFrom L.keeper L.region self.now
             (λ store. read_at store id.now start count) (IsPart count) result from.old from.new }
@@ -184,7 +186,7 @@ impl Directory {
     }
 }
 
-/// At most so many bytes of an object's content, from a place on. `NotFound` exactly where there is no such object.
+/// At most this many bytes of an object's content, from a place on. `NotFound` exactly where there is no such object.
 pub fn content<L: LeafSource>(
     alloc: Global,
     from: &mut L,
@@ -195,6 +197,7 @@ pub fn content<L: LeafSource>(
 ) -> Result<Bytes, StoreAnswer>
     requires fits { (layout form).leaves ≤ L.keeper.leaves }
     requires id { IsIdentifier id.now }
+    // No more is asked for than an ask may.
     requires count { count ≤ MAX_ASK_BYTES }
     ensures reads { ReadsRegion L.keeper L.region (layout form)
         (λ store. read_at store id.now start count) (IsPart count) result from.old from.new }

@@ -34,6 +34,7 @@ impl Directory {
         form: Form,
     ) -> Result<Directory, StoreAnswer>
         requires fits { (layout form).leaves ≤ L.keeper.leaves }
+        // Under Ok the directory is of the form that was asked for.
         ensures form { IfOk result (λ directory. directory.form ≡ form) }
         ensures bounded { IfOk result (λ directory. IsBounded directory) }
         ensures told { IsTrue L.keeper.tells_reads → IfOk result

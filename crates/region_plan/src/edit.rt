@@ -11,14 +11,14 @@ use crate::source::{LeafSource, read};
 use store_api::StoreAnswer;
 use tee_base::limits::BLOCK_BYTES;
 
-/// How many leaves the content of so many bytes takes.
+/// How many leaves the content of this many bytes takes.
 pub fn blocks(length: u32) -> u32
     ensures { result ≡ data_leaves length }
 {
     length.div_ceil(1024)
 }
 
-/// A change of a content, which had so many bytes: so many of the first are kept, then bytes are written at a place, and it gets
+/// A change of a content, which had this many bytes: some of the first are kept, then bytes are written at a place, and it gets
 /// a length.
 #[derive(Clone, Copy)]
 pub(crate) struct Edit<'a> {

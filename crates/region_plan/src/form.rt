@@ -24,6 +24,7 @@ impl Form {
     #[tactic(auto, unfolding(crate::specs::Layout::layout))]
     pub fn leaves(self) -> usize
         ensures is { result ≡ (layout self).leaves }
+        // There are at most 1,024.
         ensures most { result ≤ 1024 }
     {
         match self {
@@ -36,6 +37,7 @@ impl Form {
     #[tactic(auto, unfolding(crate::specs::Layout::layout))]
     pub fn map_leaves(self) -> usize
         ensures is { result ≡ (layout self).map_leaves }
+        // There are 1 to 4.
         ensures few { (1 ≤ result) × (result ≤ 4) }
     {
         match self {

@@ -166,7 +166,7 @@ impl Inodes {
         }
     }
 
-    /// One more inode, behind the others. None where one of them has its identifier. It searches once.
+    /// One more inode, after the others. None where one of them has its identifier. It searches once.
     pub fn with(self, inode: Inode) -> Result<Option<Inodes>, NoMemory>
         requires few { length_of self < 1024 }
         ensures new { IfOk result

@@ -7,7 +7,7 @@ ghost use Rattle.region_plan.specs.Layout.{layout};
 ghost use Rattle.region_plan.specs.declared.form.Form.{Form};
 ghost use Rattle.region_plan.specs.Regions.{region_of};
 
-/// A region of zeros is the empty store. A region is told by its leaves in use: free leaves don't matter. Where no leaf breaks
+/// A region of zeros is the empty store. A region is known by its leaves in use: free leaves don't matter. Where no leaf breaks
 /// a rule it stands for the store of its inodes. Its store costs as much as it has leaves in use, and keeps to the limits of
 /// stores. It does nothing.
 pub fn region_laws()

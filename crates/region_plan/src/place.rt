@@ -24,7 +24,7 @@ pub(crate) fn is_data_of(entry: Entry, inode: u16) -> bool
     entry.kind == DATA && entry.inode == u32::from(inode)
 }
 
-/// An entry after an inode's data got so many leaves, where a free leaf is to have this index.
+/// An entry after an inode's data got this many leaves, where a free leaf is to have this index.
 fn placed_entry(free: bool, entry: Entry, inode: u16, index: u32, blocks: u32) -> Entry
     ensures { result ≡ placed_by free entry inode index blocks }
 {
@@ -41,7 +41,7 @@ fn placed_entry(free: bool, entry: Entry, inode: u16, index: u32, blocks: u32) -
     entry
 }
 
-/// The map after an inode's data got so many leaves, of which it has the first ones. None where there are too few free leaves.
+/// The map after an inode's data got this many leaves, of which it has the first ones. None where there are too few free leaves.
 pub(crate) fn with_data(
     alloc: Global,
     map: &Map,

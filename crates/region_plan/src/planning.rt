@@ -30,7 +30,7 @@ use store_api::{Leaf, Leaves, StoreAnswer};
 use tee_base::NoMemory;
 use tee_base::limits::BLOCK_BYTES;
 
-/// How many leaves an object with so many bytes of content takes.
+/// How many leaves an object with this many bytes of content takes.
 pub fn cost(length: u32) -> u32
     ensures { result ≡ blocks_for length }
 {
@@ -85,7 +85,7 @@ fn changed_map(alloc: Global, old: &Map, map: &Map) -> Result<Leaves, NoMemory>
     Ok(leaves)
 }
 
-/// The bytes of a leaf behind the map after a change of an inode's object, if they change: the map is this one then, and the
+/// The bytes of a leaf after the map after a change of an inode's object, if they change: the map is this one then, and the
 /// inode's leaf has these bytes, if there are some.
 fn changed_leaf<L: LeafSource>(
     from: &mut L,

@@ -21,6 +21,7 @@ pub trait LeafSource {
     ///
     /// As a volume's `read_leaf` has them. Each leaves what the volume holds.
     fn leaf(&mut self, number: u16, into: &mut [u8; BLOCK_BYTES]) -> Result<(), LeafAnswer>
+        // The leaf is one of the region.
         requires { number < keeper.leaves }
         ensures { ReadsNumber keeper region number into.new result self.old self.new };
 
@@ -54,6 +55,7 @@ pub fn read<L: LeafSource>(
     number: u16,
     into: &mut [u8; BLOCK_BYTES],
 ) -> Result<(), StoreAnswer>
+    // The leaf is one of the region.
     requires { number < L.keeper.leaves }
     ensures leaf { IsTrue L.keeper.tells_reads
         → OnOk result (into.new ≡ leaves_of L.keeper L.region from.old number) }

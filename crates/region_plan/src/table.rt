@@ -134,7 +134,7 @@ fn read_inode<L: LeafSource>(
     Ok(inode)
 }
 
-/// Reads an inode, checks it beside the map and those before it, and puts it behind them.
+/// Reads an inode, checks it beside the map and those before it, and puts it after them.
 fn take_inode<L: LeafSource>(
     alloc: Global,
     from: &mut L,

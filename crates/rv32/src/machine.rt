@@ -21,7 +21,7 @@ pub enum Halt {
     Misaligned,
     /// Memory is read or written where there is none.
     Outside,
-    /// So many instructions were made as were allowed. The machine can go on.
+    /// As many instructions were made as were allowed. The machine can go on.
     Budget,
 }
 
@@ -276,7 +276,9 @@ impl Machine {
     #[inline(always)]
     #[tactic(auto, unfolding(crate::specs::Machine::step))]
     pub fn step(&mut self) -> Option<Halt>
+        // The machine is that of the definition after one instruction.
         ensures machine { self.new ≡ (isa.step self.old).machine }
+        // It stops as the definition does.
         ensures stop { result ≡ (isa.step self.old).stop }
     {
         match self.next_word() {
@@ -288,9 +290,11 @@ impl Machine {
         }
     }
 
-    /// So many instructions, or fewer where one stops the machine.
+    /// This many instructions, or fewer where one stops the machine.
     pub fn run(&mut self, budget: u32) -> Halt
+        // The machine is that of the definition after at most this many instructions.
         ensures machine { self.new ≡ (isa.run budget self.old).machine }
+        // It stops as the definition does.
         ensures stop { result ≡ (isa.run budget self.old).stop }
     {
         for _ in 0..budget {

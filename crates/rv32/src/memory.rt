@@ -57,12 +57,13 @@ impl Memory {
     }
 
     pub fn is_empty(&self) -> bool
+        // It is true exactly where there is no byte.
         ensures { IsTrue result ↔ (length self.now ≡ 0) }
     {
         self.items.is_empty()
     }
 
-    /// So many bytes from an address on, where they lie here.
+    /// This many bytes from an address on, where they lie here.
     pub fn slice(&self, address: u32, size: u32) -> Option<&[u8]>
         ensures bytes { IfSome result (λ slice. slice.now ≡ isa.slice_at self.now address size) }
         ensures found { IsSome result ↔ IsTrue (isa.holds self.now address size) }
@@ -91,7 +92,7 @@ impl Memory {
         }
     }
 
-    /// Writes so many zeros from an address on, and says whether they lie here. Else nothing changes.
+    /// Writes this many zeros from an address on, and says whether they lie here. Else nothing changes.
     pub fn clear(&mut self, address: u32, size: u32) -> bool
         ensures found { result ≡ isa.holds self.old address size }
         ensures memory { self.new ≡ isa.with_zeros self.old address size }

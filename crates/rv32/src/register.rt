@@ -25,7 +25,9 @@ impl Model for Register {
 impl Register {
     #[inline(always)]
     pub fn new(number: u8) -> Register
+        // There are 32 registers.
         requires { number < 32 }
+        // It is the register of this number.
         ensures { result ≡ number }
     {
         Register { number }
@@ -33,7 +35,9 @@ impl Register {
 
     #[inline(always)]
     pub fn index(self) -> usize
+        // It is the register's number.
         ensures value { result ≡ self }
+        // It is less than 32.
         ensures below { result < 32 }
     {
         self.number as usize

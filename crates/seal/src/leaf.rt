@@ -54,6 +54,7 @@ pub fn open_leaf(
     ensures mismatch { (key : List ℕ) → AreKeysOf keys.now key
         → IfErr result (λ m. (m.found ≡ seal_tag key place sequence tags.now.iv cipher.now)
         × (m.kept ≡ tags.now.tag) × (m.found ≢ m.kept)) }
+    // Under Err `into` is as it was.
     ensures same { OnErr result (into.new ≡ into.old) }
     ensures sealed { (key plain : List ℕ) → AreKeysOf keys.now key
         → SealsBlock key place sequence plain tags.now cipher.now

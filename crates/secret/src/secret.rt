@@ -24,7 +24,9 @@ impl Secret {
 
     /// A copy of the bytes.
     pub fn from_slice(from: &[u8]) -> Secret
+        // There are no more bytes than a secret may have.
         requires { length from.now ≤ MAX_SECRET_BYTES }
+        // The secret has these bytes.
         ensures { result ≡ from.now }
     {
         let mut bytes = ArrayVec::new();
@@ -41,7 +43,9 @@ impl Secret {
 
     /// The bytes.
     pub fn as_slice(&self) -> &[u8]
+        // They are the secret's bytes.
         ensures bytes { result.now ≡ self.now }
+        // There are no more than a secret may have.
         ensures fits { length result.now ≤ MAX_SECRET_BYTES }
     {
         self.bytes.as_slice()
@@ -49,7 +53,9 @@ impl Secret {
 
     /// How many bytes there are.
     pub fn len(&self) -> usize
+        // It is the number of the secret's bytes.
         ensures count { result ≡ length self.now }
+        // There are no more than a secret may have.
         ensures fits { result ≤ MAX_SECRET_BYTES }
     {
         self.bytes.len()

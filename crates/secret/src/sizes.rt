@@ -12,6 +12,7 @@ use tee_base::keys;
 pub fn size_fits(kind: u32, bits: u32) -> bool
     ensures table { result ≡ sizes.size_fits kind bits }
     ensures known { OnTrue result (IsTrue (sizes.is_key_kind kind)) }
+    // A size that fits has at most 1,024 bits.
     ensures small { OnTrue result (bits ≤ 1024) }
 {
     match kind {

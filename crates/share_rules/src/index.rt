@@ -64,9 +64,12 @@ impl ShareIndex {
     ///
     /// NoMemory changes nothing.
     pub fn note(&mut self, id: &[u8], flags: Flags) -> Result<(), NoMemory>
+        // Under Ok one more handle is noted on this object with these flags, and all others are as they were.
         ensures noted { OnOk result
             (Gains self.old (record { id = id.now; flags = flags }) self.new) }
+        // Under Ok such a handle is noted.
         ensures there { OnOk result (IsTrue (is_noted self.new id.now flags)) }
+        // Under Err what is noted is as it was.
         ensures unchanged { OnErr result (self.new ≡ self.old) }
     {
         if let Some(group) = self.groups.get_mut(id) {
@@ -80,7 +83,9 @@ impl ShareIndex {
 
     /// Forgets one handle on this object with these flags. It takes no memory.
     pub fn release(&mut self, id: &[u8], flags: Flags)
+        // Such a handle is noted.
         requires { IsTrue (is_noted self.old id.now flags) }
+        // One such handle fewer is noted, and all others are as they were.
         ensures { Gains self.new (record { id = id.now; flags = flags }) self.old }
     {
         if let Some(group) = self.groups.get_mut(id) {

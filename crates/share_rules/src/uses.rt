@@ -17,7 +17,7 @@ fn has(flags: Flags, bit: Flags) -> bool
 pub struct Uses {
     /// There are two handles or more.
     pub several: bool,
-    /// One writes what is told of the object.
+    /// One writes what is reported of the object.
     pub writes_meta: bool,
     /// One reads the object.
     pub reads: bool,

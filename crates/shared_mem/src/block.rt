@@ -59,9 +59,11 @@ impl Block {
         self.client == client && self.number == number
     }
 
-    /// Whether so many bytes from this place on are within it.
+    /// Whether this many bytes from this place on are within it.
     pub fn holds(&self, at: u32, count: usize) -> bool
+        // The end of these bytes is a number that fits.
         requires { at + count < 2 ^ 64 }
+        // It is true exactly where they end at or before the block's end.
         ensures { result ≡ nat_le (at + count) (length self.now.bytes) }
     {
         at as usize + count <= self.bytes.len()
@@ -69,7 +71,9 @@ impl Block {
 
     /// Writes bytes from a place on, in place.
     pub fn write(&mut self, alloc: Global, at: u32, bytes: &[u8])
+        // They lie within the block.
         requires { at + length bytes.now ≤ length self.old.bytes }
+        // The block is the one before with these bytes from that place on.
         ensures { self.new ≡ block_after_write at bytes.now self.old }
     {
         let mut content = mem::replace(&mut self.bytes, Bytes::empty(alloc)).into_vec();
@@ -109,7 +113,7 @@ impl Block {
         }
     }
 
-    /// Whether a reference fits, has an output, and has so many bytes.
+    /// Whether a reference fits, has an output, and has this many bytes.
     pub fn takes(&self, reference: &Reference, count: usize) -> bool
         ensures { result ≡ (fits self.now reference.now
             && (has_output (direction_in self.now reference.now)
@@ -124,8 +128,11 @@ impl Block {
 
     /// The parameter that an application is given for a reference. Bytes are copied only where it reads them.
     pub fn resolve(&self, alloc: Global, reference: &Reference) -> Result<Param, NoMemory>
+        // The reference lies within the block.
         requires fits { IsTrue (fits self.now reference.now) }
+        // The block has no more bytes than an ask may have.
         requires small { length self.now.bytes ≤ MAX_ASK_BYTES }
+        // Under Ok it is the parameter of the definition.
         ensures { IfOk result (λ param. param ≡ param_of self.now reference.now) }
     {
         let start = reference.start() as usize;

@@ -60,7 +60,7 @@ impl Blocks {
         let _ = self.items.len();
     }
 
-    /// Shares a block of so many zeros, with memory flags 1 for input, 2 for output, 3 for both.
+    /// Shares a block of this many zeros, with memory flags 1 for input, 2 for output, 3 for both.
     ///
     /// # Errors
     ///
@@ -73,10 +73,14 @@ impl Blocks {
         flags: u32,
         size: u32,
     ) -> Result<(), BlockAnswer>
+        // The client is one of those that can be.
         requires { client < MAX_CLIENTS }
+        // Under Ok the blocks are those of the definition, with the new one.
         ensures shared { OnOk result (share_of self.old client block flags size ≡ Ok self.new) }
+        // A code is answered exactly where the definition refuses with this code.
         ensures refused { (code : Code) → (result ≡ Err (Refused code))
             ↔ (share_of self.old client block flags size ≡ Err code) }
+        // Under Err the blocks are as they were.
         ensures unchanged { OnErr result (self.new ≡ self.old) }
     {
         let Some(direction) = Direction::of_flags(flags) else {
@@ -105,7 +109,9 @@ impl Blocks {
     /// The first that applies. BAD_PARAMETERS: more than 524,288 bytes. ITEM_NOT_FOUND: the client has no such block.
     /// EXCESS_DATA: the bytes would pass the block's end. All errors change nothing.
     pub fn fill(&mut self, client: u8, block: u32, at: u32, bytes: &[u8]) -> Result<(), BlockAnswer>
+        // The answer is the definition's.
         ensures answer { result ≡ answer_of (fill_of self.old client block at bytes.now) }
+        // The blocks are those of the definition, and where it refuses, as they were.
         ensures blocks { self.new ≡ left_by (fill_of self.old client block at bytes.now) self.old }
     {
         if bytes.len() > MAX_ASK_BYTES as usize {
@@ -134,7 +140,9 @@ impl Blocks {
     ///
     /// ITEM_NOT_FOUND exactly where the client has no such block.
     pub fn show(&self, client: u8, block: u32) -> Result<Bytes, BlockAnswer>
+        // Under Ok these are the bytes of the client's block.
         ensures shown { IfOk result (λ bytes. show_of self.now client block ≡ Ok bytes) }
+        // A code is answered exactly where the definition refuses with this code.
         ensures refused { (code : Code) → (result ≡ Err (Refused code))
             ↔ (show_of self.now client block ≡ Err code) }
     {
@@ -153,7 +161,9 @@ impl Blocks {
     ///
     /// The first that applies. ITEM_NOT_FOUND: the client has no such block. BUSY: it is named. Both change nothing.
     pub fn unshare(&mut self, client: u8, block: u32, named: bool) -> Result<(), BlockAnswer>
+        // The answer is the definition's.
         ensures answer { result ≡ answer_of (unshare_of self.old client block named) }
+        // The blocks are those of the definition, and where it refuses, as they were.
         ensures blocks { self.new ≡ left_by (unshare_of self.old client block named) self.old }
     {
         if !lists::has(self.items.as_slice(), client, block) {
@@ -254,7 +264,7 @@ impl Blocks {
         );
     }
 
-    /// Whether a reference takes so many bytes as output.
+    /// Whether a reference takes this many bytes as output.
     fn takes(&self, client: u8, reference: &Reference, count: usize) -> bool
         ensures { (bytes : List ℕ) → length bytes ≡ count
             → result ≡ takes_bytes (check_of self.now client reference.now) reference.now bytes }

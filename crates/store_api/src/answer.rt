@@ -14,7 +14,7 @@ pub struct Mismatch {
 /// Why a store doesn't do what it was asked. All but `Failed` leave it as it was.
 #[derive(Clone, Copy, Debug, PartialEq, Eq, Error)]
 pub enum StoreAnswer {
-    /// There is no object of that identifier, or none behind it.
+    /// There is no object of that identifier, or none after it.
     #[error("no such object")]
     NotFound,
     /// There is an object of that identifier.

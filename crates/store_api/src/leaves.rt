@@ -89,10 +89,13 @@ impl Leaves {
         }
     }
 
-    /// One more leaf, behind the others. Want of memory changes nothing.
+    /// One more leaf, after the others. Want of memory changes nothing.
     pub fn push(&mut self, leaf: Leaf) -> Result<(), NoMemory>
+        // Its number is above those of all others.
         requires { IsTrue (is_above_all self.old leaf.number) }
+        // Under Ok the list has the leaf after the others.
         ensures ok { OnOk result (self.new ≡ self.old ++ leaf ∷ []) }
+        // Under Err the list is as it was.
         ensures err { OnErr result (self.new ≡ self.old) }
     {
         self.items.push(leaf)?;
@@ -101,7 +104,9 @@ impl Leaves {
 
     /// The leaves.
     pub fn as_slice(&self) -> &[Leaf]
+        // They are the list's leaves.
         ensures leaves { result.now ≡ self.now }
+        // Their numbers ascend.
         ensures ascending { is_ascending result.now ≡ true }
     {
         self.items.as_slice()

@@ -1,4 +1,4 @@
-//! A store in memory, some of whose calls fail as they are told.
+//! A store in memory, some of whose calls fail by plan.
 
 ghost use Rattle.std.specs.Prelude.{◌≡◌, ◌≤◌, IfOk, option_copied, length, take, drop};
 ghost use Rattle.store_api.specs.Keeping.{Answers, Reads, Applies, IsIntact};
@@ -70,7 +70,7 @@ impl Past {
     }
 }
 
-/// At most so many bytes from a place on.
+/// At most this many bytes from a place on.
 fn part(bytes: &[u8], from: usize, count: usize) -> &[u8]
     ensures bytes { result.now ≡ take count (drop from bytes.now) }
     ensures few { length result.now ≤ count }
@@ -130,7 +130,7 @@ fn listed_in(alloc: Global, objects: &Objects, last: Option<&[u8]>) -> Result<Li
     })
 }
 
-/// A store in memory. It fails exactly at the calls that it was told, and is lost from then on.
+/// A store in memory. It fails exactly at the calls that were named, and is lost from then on.
 #[derive(Drop)]
 pub struct MapStore {
     objects: Objects,
@@ -214,7 +214,7 @@ impl AppStore for MapStore {
 
     ghost left_now = { λ s h works. left_now s };
 
-    /// Besides, no answer tells of damage, it fails exactly at the calls that it was told, and each call counts once. So do
+    /// Besides, no answer tells of damage, it fails exactly at the calls that were named, and each call counts once. So do
     /// the others.
     fn find(&mut self, id: &[u8]) -> Result<Facts, StoreAnswer>
         requires { IsIdentifier id.now }
@@ -242,6 +242,7 @@ impl AppStore for MapStore {
 
     fn read(&mut self, id: &[u8], from: u32, count: u32) -> Result<Bytes, StoreAnswer>
         requires id { IsIdentifier id.now }
+        // No more is asked for than an ask may.
         requires count { count ≤ MAX_ASK_BYTES }
         ensures reads { Reads map_keeper (λ store. read_at store id.now from count) (IsPart count)
             result self.old self.new }

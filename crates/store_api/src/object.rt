@@ -1,4 +1,4 @@
-//! Persistent objects, and what is told of one (TEE Internal Core API 1.3, chapter 5).
+//! Persistent objects, and what is reported of one (TEE Internal Core API 1.3, chapter 5).
 
 ghost use Rattle.std.specs.Prelude.{◌≡◌, ◌≤◌, IfOk, length};
 ghost use Rattle.store_api.specs.Limits.{IsSecret};
@@ -22,9 +22,10 @@ pub struct Object {
 }
 
 impl Object {
-    /// What is told of it.
+    /// What is reported of it.
     pub fn facts(&self) -> Facts
         requires secret { IsSecret self.now.secret }
+        // The content has no more bytes than an object may have.
         requires content { length self.now.content ≤ MAX_CONTENT_BYTES }
         ensures { result ≡ facts_of self.now }
     {
@@ -49,7 +50,7 @@ impl Object {
     }
 }
 
-/// What is told of an object: its kind, its usage, and the lengths of its secret and of its content in bytes.
+/// What is reported of an object: its kind, its usage, and the lengths of its secret and of its content in bytes.
 #[derive(Clone, Copy, Debug, PartialEq, Eq)]
 pub struct Facts {
     pub kind: u32,

@@ -18,7 +18,7 @@ use std::marker::Model;
 use tee_base::limits::{BLOCK_BYTES, QUOTA};
 use tee_base::{Bytes, NoMemory};
 
-/// How many blocks an object with so many bytes of content costs: one for itself, and those of the content.
+/// How many blocks an object with this many bytes of content costs: one for itself, and those of the content.
 fn blocks_of(bytes: usize) -> usize
     ensures { result ≡ blocks_for bytes }
 {
@@ -145,7 +145,7 @@ impl Objects {
         }
     }
 
-    /// Whether an object with so many bytes of content has room under an identifier.
+    /// Whether an object with this many bytes of content has room under an identifier.
     fn has_room(&self, id: &[u8], bytes: usize) -> bool
         ensures { (o : Kept) → length o.content ≡ bytes
             → result ≡ nat_le (cost (finite.insert self.now id.now o)) quota }

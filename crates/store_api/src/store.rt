@@ -31,6 +31,7 @@ pub trait AppStore {
     /// At most `count` bytes of an object's content, from a place on. `NotFound` exactly where there is no such object.
     fn read(&mut self, id: &[u8], from: u32, count: u32) -> Result<Bytes, StoreAnswer>
         requires id { IsIdentifier id.now }
+        // No more is asked for than an ask may.
         requires count { count ≤ MAX_ASK_BYTES }
         ensures { Reads keeper (λ store. read_at store id.now from count) (IsPart count) result
             self.old self.new };

@@ -25,7 +25,9 @@ pub trait Volume {
         leaf: u16,
         into: &mut [u8; BLOCK_BYTES],
     ) -> Result<(), LeafAnswer>
+        // The region is one of the volume.
         requires region { region < MAX_HOSTS }
+        // The leaf is one of a region.
         requires leaf { leaf < keeper.leaves }
         ensures { ReadsLeaf keeper region leaf into.new result self.old self.new };
 
@@ -36,6 +38,7 @@ pub trait Volume {
     /// `Mismatch` with the damage of a leaf of the region, and `NoMemory`, each before anything is written. `Failed` only
     /// where what it stands on failed in this call; the volume is lost then, and whether the leaves are replaced is open.
     fn commit(&mut self, region: u8, leaves: &Leaves) -> Result<u64, LeafAnswer>
+        // The region is one of the volume.
         requires region { region < MAX_HOSTS }
         requires leaves { IsTrue (is_above_all leaves.now keeper.leaves) }
         ensures { CommitsLeaves keeper region leaves.now result self.old self.new };

@@ -66,7 +66,9 @@ impl Codes {
 
     /// None was counted.
     pub fn none(alloc: Global) -> Codes
+        // No code was counted.
         ensures empty { result ≡ [] }
+        // It tallies an empty list of codes.
         ensures tally { IsTally [] result }
     {
         Codes {
@@ -99,8 +101,10 @@ impl Codes {
 
     /// Counts the code in a line, if there is one. NoMemory changes nothing.
     pub fn count_line(&mut self, alloc: Global, line: &[u8]) -> Result<(), NoMemory>
+        // Under Ok it tallies the codes that it tallied before and those of the line.
         ensures counted { OnOk result ((found : List ℕ) → IsTally found self.old
             → IsTally (found ++ codes_in (line.now ∷ [])) self.new) }
+        // Under Err it is as it was.
         ensures unchanged { OnErr result (self.new ≡ self.old) }
     {
         match code_in(alloc, line)? {

@@ -22,13 +22,13 @@ impl From<NoMemory> for Cut {
     }
 }
 
-/// A sink that sums up what is written. It takes no line about the board, and nothing behind one.
+/// A sink that sums up what is written. It takes no line about the board, and nothing after one.
 #[derive(Drop)]
 pub struct Summary {
     alloc: Global,
     /// Of all whole lines.
     digester: Digester,
-    /// What stands behind the last line feed.
+    /// What stands after the last line feed.
     line: Vec<u8>,
     codes: Codes,
     text: Told,
@@ -68,7 +68,9 @@ impl Summary {
 
     /// Why it took no more, if so.
     pub fn cut(&self) -> Option<Cut>
+        // It is what the sink noted.
         ensures cut { result ≡ self.now.cut }
+        // It is why the sink took no more, by the text that it has and the line that is open.
         ensures at { IsCutAt self.now.text self.now.line result }
     {
         self.cut

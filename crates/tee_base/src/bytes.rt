@@ -78,6 +78,7 @@ impl Bytes {
     }
 
     pub fn as_slice(&self) -> &[u8]
+        // They are the value's bytes.
         ensures { result.now ≡ self.now }
     {
         self.items.as_slice()

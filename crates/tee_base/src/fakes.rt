@@ -1,4 +1,4 @@
-//! Sources and sinks in memory, some of whose calls fail as they are told.
+//! Sources and sinks in memory, some of whose calls fail by plan.
 
 ghost use Rattle.std.specs.Prelude.{◌≡◌, ◌<◌, ◌≤◌, ◌↔◌, ◌-◌, ◌^◌, ◌++◌, [], List, ℕ, Some, IfOk, IsErr, OnErr, Contains, is_err, length, take, drop};
 ghost use Rattle.std.specs.Io.KnownBytes.{ReadConsumes, WriteAppends};
@@ -43,10 +43,14 @@ impl Schedule {
 
     /// Counts the call that begins now, and says whether it fails.
     pub fn fails_now(&mut self) -> bool
+        // It fails exactly where the number of this call is among those that are to fail.
         ensures fails { IsTrue result ↔ Contains self.old.failing self.old.calls }
+        // The plan counts this call, and the fault where it failed.
         ensures after { self.new ≡ plan_after_call result self.old }
+        // The count of faults never falls.
         ensures later { self.old.faults ≤ self.new.faults }
         ensures rose { IsTrue result → Rose self.old.faults self.new.faults }
+        // Where it failed, the plan says that the last call failed.
         ensures last { IsTrue result → HasJustFailed self.new }
     {
         let fails = self.failing.contains(&self.calls);
@@ -85,7 +89,7 @@ fn copy_front(from: &[u8], to: &mut [u8]) -> usize
     count
 }
 
-/// A source in memory: it gives its bytes, and fails at the calls that it was told.
+/// A source in memory: it gives its bytes, and fails at the calls that were named.
 #[derive(Debug, Drop)]
 pub struct MemSource {
     bytes: Bytes,
@@ -129,15 +133,21 @@ impl Source for MemSource {
 
     ghost just_failed = { λ s. HasJustFailed s.plan };
 
-    /// Besides, it fails exactly at the calls that it was told, and counts this call.
+    /// Besides, it fails exactly at the calls that were named, and counts this call.
     fn read(&mut self, into: &mut [u8]) -> Result<usize, SourceFailed>
+        // Under Ok no more bytes came than there is room for.
         ensures room { IfOk result (λ n. n ≤ length into.old) }
+        // Where the source tells its bytes: under Ok(n) the next n of them stand at the front of `into`, and under Err none is taken.
         ensures taken { ReadConsumes (Some self.old.left) (Some self.new.left) result into.new }
         ensures counts { self.new.plan.faults ≡ faults_after result self.old.plan.faults }
+        // Under Err the source says that its last call failed.
         ensures last { OnErr result (HasJustFailed self.new.plan) }
         ensures cause { OnErr result (Rose self.old.plan.faults self.new.plan.faults) }
+        // The count of faults never falls.
         ensures later { self.old.plan.faults ≤ self.new.plan.faults }
+        // It fails exactly where the number of this call is among those that are to fail.
         ensures fails { IsErr result ↔ Contains self.old.plan.failing self.old.plan.calls }
+        // The plan counts this call, and the fault where it failed.
         ensures plan { self.new.plan ≡ plan_after_call (is_err result) self.old.plan }
     {
         if self.schedule.fails_now() {
@@ -153,7 +163,7 @@ impl Source for MemSource {
     }
 }
 
-/// A sink in memory: it keeps what is written, and fails at the calls that it was told.
+/// A sink in memory: it keeps what is written, and fails at the calls that were named.
 #[derive(Debug, Drop)]
 pub struct MemSink {
     bytes: Vec<u8>,
@@ -199,15 +209,21 @@ impl Sink for MemSink {
 
     /// Takes the whole piece. A write that finds no memory counts as a failure of the sink.
     fn write(&mut self, piece: &[u8]) -> Result<usize, SinkFailed>
+        // Under Ok no more bytes were taken than the piece has.
         ensures room { IfOk result (λ n. n ≤ length piece.now) }
         ensures some { IfOk result (TakesSome piece.now) }
+        // Where the sink tells its bytes: under Ok(n) the first n of the piece were appended, and under Err nothing was.
         ensures appended { WriteAppends (Some self.old.written) (Some self.new.written) result
             piece.now }
         ensures counts { self.new.plan.faults ≡ faults_after result self.old.plan.faults }
         ensures cause { OnErr result (Rose self.old.plan.faults self.new.plan.faults) }
+        // The count of faults never falls.
         ensures later { self.old.plan.faults ≤ self.new.plan.faults }
+        // It fails where the number of this call is among those that are to fail.
         ensures fails { Contains self.old.plan.failing self.old.plan.calls → IsErr result }
+        // Under Ok the whole piece was taken.
         ensures whole { IfOk result (λ n. n ≡ length piece.now) }
+        // The plan counts this call, and the fault where it failed.
         ensures plan { self.new.plan ≡ plan_after_call (is_err result) self.old.plan }
     {
         if self.schedule.fails_now() {

@@ -29,11 +29,15 @@ pub trait Source {
 
     /// Moves the next bytes into the front of `into`, and says how many. None of them, where there is room, means the end.
     fn read(&mut self, into: &mut [u8]) -> Result<usize, SourceFailed>
+        // Under Ok no more bytes came than there is room for.
         ensures room { IfOk result (λ n. n ≤ length into.old) }
+        // Where the source tells its bytes: under Ok(n) the next n of them stand at the front of `into`, and under Err none is taken.
         ensures taken { ReadConsumes (left self.old) (left self.new) result into.new }
         ensures counts { failures self.new ≡ faults_after result (failures self.old) }
+        // Under Err the source says that its last call failed.
         ensures last { OnErr result (just_failed self.new) }
         ensures cause { OnErr result (Rose (failures self.old) (failures self.new)) }
+        // The count of faults never falls.
         ensures later { failures self.old ≤ failures self.new };
 
     /// The count of faults, which never falls.
@@ -51,11 +55,14 @@ pub trait Sink {
 
     /// Appends the front of `piece`, and says how many bytes: at least one of a piece that has some.
     fn write(&mut self, piece: &[u8]) -> Result<usize, SinkFailed>
+        // Under Ok no more bytes were taken than the piece has.
         ensures room { IfOk result (λ n. n ≤ length piece.now) }
         ensures some { IfOk result (TakesSome piece.now) }
+        // Where the sink tells its bytes: under Ok(n) the first n of the piece were appended, and under Err nothing was.
         ensures appended { WriteAppends (written self.old) (written self.new) result piece.now }
         ensures counts { failures self.new ≡ faults_after result (failures self.old) }
         ensures cause { OnErr result (Rose (failures self.old) (failures self.new)) }
+        // The count of faults never falls.
         ensures later { failures self.old ≤ failures self.new };
 
     /// The count of faults, which never falls.

@@ -13,6 +13,7 @@ fn is_taken(number: u8, taken: &[u8]) -> bool
 
 /// The lowest number from 1 on that isn't among these.
 pub fn find_lowest_free(taken: &[u8]) -> u8
+    // There are fewer than 255, so one is free.
     requires { length taken.now < 255 }
     ensures { result ≡ lowest_free taken.now }
 {

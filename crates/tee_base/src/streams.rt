@@ -16,7 +16,9 @@ pub struct StdSource<R> {
 impl<R: Read> StdSource<R> {
     /// The reader, with no failure yet.
     pub fn new(reader: R) -> StdSource<R>
+        // What is left is what the reader has left.
         ensures same { ⟦<StdSource<R> as Source>⟧.left result ≡ R.remaining reader }
+        // It has counted no failure.
         ensures none { ⟦<StdSource<R> as Source>⟧.failures result ≡ 0 }
     {
         StdSource { reader, faults: 0 }
@@ -55,7 +57,9 @@ pub struct StdSink<W> {
 impl<W: Write> StdSink<W> {
     /// The writer, with no failure yet.
     pub fn new(writer: W) -> StdSink<W>
+        // What was written is what the writer holds.
         ensures same { ⟦<StdSink<W> as Sink>⟧.written result ≡ W.contents writer }
+        // It has counted no failure.
         ensures none { ⟦<StdSink<W> as Sink>⟧.failures result ≡ 0 }
     {
         StdSink { writer, faults: 0 }

@@ -33,8 +33,11 @@ const PIECE: usize = 4096;
 
 /// All bytes up to the source's end, at most `limit` of them. At most `limit + 1` bytes are read, whatever the answer.
 pub fn read_all<S: Source>(alloc: Global, source: &mut S, limit: u32) -> Result<Bytes, ReadAnswer>
+    // Under Ok these bytes are all that was taken from the source, where it tells them.
     ensures whole { IfOk result (λ bytes. Consumes (S.left source.old) (S.left source.new) bytes) }
+    // Under Ok the source is at its end.
     ensures at_end { OnOk result (IsAtEnd (S.left source.new)) }
+    // Under Ok there are at most `limit` bytes.
     ensures within { IfOk result (λ bytes. length bytes ≤ limit) }
     ensures too_long { IsErrOf result ReadAnswer.TooLong → HasMoreThan limit (S.left source.old) }
     ensures read_fault { IsErrOf result ReadAnswer.ReadFault
@@ -47,6 +50,7 @@ pub fn read_all<S: Source>(alloc: Global, source: &mut S, limit: u32) -> Result<
         → S.failures source.new ≡ S.failures source.old }
     ensures err { OnErr result
         (ConsumesWithin (limit + 1) (S.left source.old) (S.left source.new)) }
+    // The count of faults never falls.
     ensures later { S.failures source.old ≤ S.failures source.new }
 {
     let mut items = Vec::new(alloc);
@@ -74,9 +78,11 @@ pub fn read_all<S: Source>(alloc: Global, source: &mut S, limit: u32) -> Result<
 
 /// Appends the whole piece, in as many writes as it takes. It takes no memory.
 pub fn write_all<W: Sink>(sink: &mut W, piece: &[u8]) -> Result<(), WriteFault>
+    // Under Ok the whole piece was appended, where the sink tells its bytes.
     ensures ok { OnOk result (Appends (W.written sink.old) (W.written sink.new) piece.now) }
     ensures err { OnErr result (AppendsFront piece.now (W.written sink.old) (W.written sink.new)) }
     ensures cause { OnErr result (Rose (W.failures sink.old) (W.failures sink.new)) }
+    // The count of faults never falls.
     ensures later { W.failures sink.old ≤ W.failures sink.new }
 {
     let mut rest = piece;

@@ -54,22 +54,23 @@ impl Clock {
         let _ = &self.ticks;
     }
 
-    /// Whether there may be so many more ticks.
+    /// Whether there may be this many more ticks.
     pub fn may_tick(&self, ticks: u32) -> bool
         ensures { IsTrue result ↔ (self.now.ticks + ticks < 2 ^ 63) }
     {
         self.ticks + u64::from(ticks) < 1 << 63
     }
 
-    /// So many more ticks.
+    /// This many more ticks.
     pub fn tick(&mut self, ticks: u32)
+        // The clock stays below 2^63 ticks.
         requires { self.old.ticks + ticks < 2 ^ 63 }
         ensures { self.new ≡ with_ticks self.old ticks }
     {
         self.ticks += u64::from(ticks);
     }
 
-    /// The number of ticks at which a wait of so many ends, which is None exactly for `FOREVER`.
+    /// The number of ticks at which a wait of this many ends, which is None exactly for `FOREVER`.
     pub fn deadline(&self, ticks: u32) -> Option<u64>
         ensures { result ≡ deadline_of self.now ticks }
     {
@@ -99,6 +100,7 @@ impl Clock {
 
     /// Sets the application's own time (TEE Internal Core API 1.3, section 7.2.4).
     pub fn set(&mut self, time: Time)
+        // The milliseconds of the time are fewer than 1,000.
         requires { time.millis < MILLIS }
         ensures { self.new ≡ with_own self.old time }
     {
@@ -143,7 +145,7 @@ fn millis_in(time: Time) -> u64
     u64::from(time.seconds) * u64::from(MILLIS) + u64::from(time.millis)
 }
 
-/// So many milliseconds as a time.
+/// This many milliseconds as a time.
 fn time_of(millis: u64) -> Result<Time, TimeAnswer>
     ensures { result ≡ clocks.time_of millis }
 {

@@ -28,7 +28,7 @@ impl Transient {
     ghost use Rattle.std.specs.Prelude.{◌≡◌, is_ok, is_some, if◌then◌else◌, option_copied};
     ghost use Rattle.transient_obj.specs.Keys.{IsKey, allocate_answer, populate_answer, key_with_secret, without_secret, copy_answer, with_secret_of, with_usages};
 
-    /// A new key of this kind, with room for a secret of so many bits, without one and with all usages.
+    /// A new key of this kind, with room for a secret of this many bits, without one and with all usages.
     ///
     /// # Errors
     ///
@@ -101,7 +101,9 @@ impl Transient {
     /// Misuse exactly where it is initialised or more than 524,288 bytes come; else BadParameters exactly where the
     /// size of the secret doesn't fit the kind or is above the greatest size. Both change nothing.
     pub fn populate(&mut self, secret: &[u8]) -> Result<(), KeyAnswer>
+        // The answer is the definition's, by the key before and the secret.
         ensures answer { result ≡ populate_answer self.old secret.now }
+        // Under Ok the key has the secret, and else it is as it was.
         ensures after { self.new
             ≡ (if is_ok result then key_with_secret self.old secret.now else self.old) }
     {
@@ -131,7 +133,9 @@ impl Transient {
     /// Misuse exactly where the key is initialised, the kinds differ or the secret is above the greatest size. It
     /// changes nothing.
     pub fn copy_from(&mut self, kind: u32, usage: u32, secret: &[u8]) -> Result<(), KeyAnswer>
+        // The answer is the definition's, by the key before and the secret.
         ensures answer { result ≡ copy_answer self.old kind secret.now }
+        // Under Ok the key has the secret and the usages that both have, and else it is as it was.
         ensures after { self.new
             ≡ (if is_ok result then with_secret_of self.old usage secret.now else self.old) }
     {

@@ -194,20 +194,27 @@ pub fn gather<B: Board>(
     region: u8,
     leaves: &[Leaf],
 ) -> Result<Touched, LeafAnswer>
+    // The board has the blocks of a tree.
     requires size { TREE_BLOCKS ≤ (B.view board.old).size }
+    // The region is one of the volume.
     requires region { region < MAX_HOSTS }
     requires ascending { is_ascending leaves.now ≡ true }
+    // The numbers are those of leaves of a region.
     requires numbers { All (λ leaf. leaf.number < REGION_LEAVES) leaves.now }
     ensures calls { CallRun (no_fault result) (B.view board.old) (B.view board.new) }
+    // No block is written.
     ensures writes { (B.view board.new).writes ≡ (B.view board.old).writes }
     ensures cause { result ≡ Err answers.Failed
         → Rose (B.view board.old).state.faults (B.view board.new).state.faults }
+    // `Lost` never comes.
     ensures answer { result ≢ Err answers.Lost }
     ensures tags { (key : List ℕ) → AreKeysOf keys.now key
         → IfMismatch result (λ tags. tags.found ≢ tags.kept) }
+    // Where the board tells its reads, each block reads as before.
     ensures same { IsTrue B.tells_reads
         → (B.view board.new).state.reads ≡ (B.view board.old).state.reads }
     ensures ordered { IfOk result (λ t. AreOrdered shape t) }
+    // Under Ok there are at most twice as many nodes as leaves, and six.
     ensures count { IfOk result (λ t. length t ≤ 2 * length leaves.now + 6) }
     ensures leaves { IfOk result (λ t. (l : ℕ) → l < REGION_LEAVES
         → fresh_of t (shape.leaf_place region l) ≡ leaf_among leaves.now l) }

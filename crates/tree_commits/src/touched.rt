@@ -45,7 +45,9 @@ impl Touched {
 
     /// One more node, before the others. Want of memory changes nothing.
     pub fn push(&mut self, node: Node) -> Result<(), NoMemory>
+        // Under Ok the list has this node before the others.
         ensures ok { OnOk result (self.new ≡ node ∷ self.old) }
+        // Under Err the list is as it was.
         ensures err { OnErr result (self.new ≡ self.old) }
     {
         self.nodes.push(node)?;
@@ -54,7 +56,9 @@ impl Touched {
 
     /// The first node, which is taken away.
     pub fn pop(&mut self) -> Option<Node>
+        // It is the first of the list before, and the list after has the others.
         ensures some { IfSome result (λ node. self.old ≡ node ∷ self.new) }
+        // Where there is none, the list was empty, and is.
         ensures none { result ≡ None → (self.old ≡ []) × (self.new ≡ []) }
     {
         self.nodes.pop()
@@ -81,6 +85,7 @@ impl Touched {
 
     /// The entry that stands in the node of a place.
     pub fn entry_under(&self, place: u64, slot: usize) -> TreeEntry
+        // A node has an entry of this number.
         requires slot { slot < FAN }
         requires place { IsSome (fresh_of self.now place) }
         ensures { (bytes : List ℕ) → fresh_of self.now place ≡ Some bytes
@@ -91,6 +96,7 @@ impl Touched {
 
     /// Puts bytes into the node of a place, where it is there, from one byte on.
     pub fn put(&mut self, place: u64, at: usize, bytes: &[u8; 64])
+        // The 64 bytes lie within a node.
         requires { at + 64 ≤ BLOCK_BYTES }
         ensures { self.new ≡ all_with_bytes place at bytes.now self.old }
     {

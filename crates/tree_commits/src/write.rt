@@ -26,11 +26,15 @@ pub fn write_node<B: Board>(
     node: &Node,
     sequence: u64,
 ) -> Result<TreeEntry, BoardFailed>
+    // The board has the blocks of a tree.
     requires size { TREE_BLOCKS ≤ (B.view board.old).size }
+    // The place is one of the tree.
     requires place { node.now.place < PLACES }
+    // No commit has the sequence 0.
     requires sequence { 0 < sequence }
     ensures calls { CallRun (is_ok result) (B.view board.old) (B.view board.new) }
     ensures writes { (B.view board.new).writes ≡ up_to_limit ((B.view board.old).writes + 1) }
+    // An honest board stays honest.
     ensures honest { B.honest board.old → B.honest board.new }
     ensures past { B.honest board.old → KeepsPast (B.view board.old) (B.view board.new) }
     ensures run { B.honest board.old
@@ -44,6 +48,7 @@ pub fn write_node<B: Board>(
         → IfOk result (λ entry.
         on_image shape key (B.view board.new).state.reads node.now.place entry
         ≡ entry_of_known node.now.bytes entry) }
+    // Under Ok the entry has this sequence.
     ensures sealed_for { IfOk result (λ entry. entry.sequence ≡ sequence) }
     ensures sealed { (key : List ℕ) → AreKeysOf keys.now key
         → IfOk result (λ entry. IsSealedFor key node.now.place sequence node.now.bytes entry) }
@@ -69,16 +74,21 @@ pub fn write_all<B: Board>(
     touched: &mut Touched,
     sequence: u64,
 ) -> Result<TreeEntry, BoardFailed>
+    // The board has the blocks of a tree.
     requires size { TREE_BLOCKS ≤ (B.view board.old).size }
     requires gathered { AreGathered shape touched.old }
+    // No commit has the sequence 0.
     requires sequence { 0 < sequence }
     ensures calls { CallRun (is_ok result) (B.view board.old) (B.view board.new) }
+    // At most one write is made for each node.
     ensures writes { (B.view board.new).writes
         ≤ (B.view board.old).writes + length touched.old }
     ensures gathered { AreGathered shape touched.new }
+    // Under Ok the entry has this sequence.
     ensures sealed_for { IfOk result (λ entry. entry.sequence ≡ sequence) }
     ensures sealed { AreOrdered shape touched.old → (key : List ℕ) → AreKeysOf keys.now key
         → IfOk result (λ entry. AreSealed shape DEPTH key sequence touched.old entry) }
+    // An honest board stays honest.
     ensures honest { B.honest board.old → B.honest board.new }
     ensures past { B.honest board.old → KeepsPast (B.view board.old) (B.view board.new) }
     ensures run { B.honest board.old

@@ -31,6 +31,7 @@ pub const BLOCKS: u64 = 8_742;
 
 /// The place that a place is an entry of.
 pub fn parent(place: u64) -> u64
+    // The place isn't the root's.
     requires { 0 < place }
     ensures { result ≡ first_shape.parent place }
 {
@@ -39,8 +40,10 @@ pub fn parent(place: u64) -> u64
 
 /// The number of the entry that a place is.
 pub fn slot(place: u64) -> usize
+    // The place isn't the root's.
     requires { 0 < place }
     ensures slot { result ≡ first_shape.slot place }
+    // It is less than the number of entries of a node.
     ensures below { result < FAN }
 {
     ((place - 1) % FAN) as usize
@@ -48,9 +51,13 @@ pub fn slot(place: u64) -> usize
 
 /// The place of the node of a group of a region.
 pub fn group_place(region: u8, group: u8) -> u64
+    // The region is one of the volume.
     requires region { region < MAX_HOSTS }
+    // The group is one of the region.
     requires group { group < FAN }
+    // It is the place of the region's first group, with the number of the group added.
     ensures place { result ≡ FIRST_GROUP + FAN * region + group }
+    // It is a place of the tree.
     ensures below { result < PLACES }
     ensures level { first_shape.level result ≡ 2 }
 {
@@ -59,8 +66,10 @@ pub fn group_place(region: u8, group: u8) -> u64
 
 /// The place of a leaf of a region.
 pub fn leaf_place(region: u8, leaf: u8) -> u64
+    // The region is one of the volume.
     requires { region < MAX_HOSTS }
     ensures place { result ≡ first_shape.leaf_place region leaf }
+    // It is a place of the tree.
     ensures below { result < PLACES }
     ensures level { first_shape.level result ≡ DEPTH }
 {

@@ -28,15 +28,21 @@ pub trait Layout {
 
     /// The place that an entry of a node names.
     fn child(place: u64, number: u64) -> u64
+        // The place is one of the tree.
         requires place { place < shape.places }
+        // The place is no leaf's.
         requires level { shape.level place < depth }
+        // The node has an entry of this number.
         requires number { number < children.fan place }
+        // It is the place of that entry, as the shape of the tree has it.
         ensures { result ≡ children.child place number };
 
     /// The block of a copy of a place.
     fn block(place: u64, copy: u64) -> u64
+        // The place is one of the tree.
         requires { place < shape.places }
         ensures block { result ≡ block_of_copy shape place copy }
+        // It is a block of the tree.
         ensures below { result < shape.first_block + 2 * shape.places };
 
     ghost tree: { IsShape shape };

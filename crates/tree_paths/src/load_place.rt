@@ -36,15 +36,20 @@ pub fn load<B: Board, L: Layout>(
     entry: &TreeEntry,
     into: &mut [u8; 1024],
 ) -> Result<(), LeafAnswer>
+    // The board has a block for both copies of each place.
     requires size { L.shape.first_block + 2 * L.shape.places ≤ (B.view board.old).size }
+    // The place is one of the tree.
     requires place { place < L.shape.places }
     ensures calls { CallRun (no_fault result) (B.view board.old) (B.view board.new) }
+    // No block is written.
     ensures writes { (B.view board.new).writes ≡ (B.view board.old).writes }
     ensures cause { result ≡ Err answers.Failed
         → Rose (B.view board.old).state.faults (B.view board.new).state.faults }
+    // `Lost` and `NoMemory` never come.
     ensures answer { (result ≢ Err answers.Lost) × (result ≢ Err answers.NoMemory) }
     ensures tags { (key : List ℕ) → AreKeysOf keys.now key
         → IfMismatch result (λ tags. tags.found ≢ tags.kept) }
+    // Where the board tells its reads, each block reads as before.
     ensures same { IsTrue B.tells_reads
         → (B.view board.new).state.reads ≡ (B.view board.old).state.reads }
     ensures text { IsTrue B.tells_reads → (key : List ℕ) → AreKeysOf keys.now key
@@ -111,15 +116,20 @@ pub fn load_node<B: Board>(
     entry: &TreeEntry,
     into: &mut [u8; 1024],
 ) -> Result<(), LeafAnswer>
+    // The board has the blocks of a tree.
     requires size { TREE_BLOCKS ≤ (B.view board.old).size }
+    // The place is one of the tree.
     requires place { place < PLACES }
     ensures calls { CallRun (no_fault result) (B.view board.old) (B.view board.new) }
+    // No block is written.
     ensures writes { (B.view board.new).writes ≡ (B.view board.old).writes }
     ensures cause { result ≡ Err answers.Failed
         → Rose (B.view board.old).state.faults (B.view board.new).state.faults }
+    // `Lost` and `NoMemory` never come.
     ensures answer { (result ≢ Err answers.Lost) × (result ≢ Err answers.NoMemory) }
     ensures tags { (key : List ℕ) → AreKeysOf keys.now key
         → IfMismatch result (λ tags. tags.found ≢ tags.kept) }
+    // Where the board tells its reads, each block reads as before.
     ensures same { IsTrue B.tells_reads
         → (B.view board.new).state.reads ≡ (B.view board.old).state.reads }
     ensures text { IsTrue B.tells_reads → (key : List ℕ) → AreKeysOf keys.now key
@@ -158,16 +168,21 @@ pub fn find_entry<B: Board>(
     level: usize,
     place: u64,
 ) -> Result<TreeEntry, LeafAnswer>
+    // The board has the blocks of a tree.
     requires size { TREE_BLOCKS ≤ (B.view board.old).size }
+    // The place is one of the tree.
     requires place { place < PLACES }
     requires level { shape.level place ≡ level }
     ensures calls { CallRun (no_fault result) (B.view board.old) (B.view board.new) }
+    // No block is written.
     ensures writes { (B.view board.new).writes ≡ (B.view board.old).writes }
     ensures cause { result ≡ Err answers.Failed
         → Rose (B.view board.old).state.faults (B.view board.new).state.faults }
+    // `Lost` and `NoMemory` never come.
     ensures answer { (result ≢ Err answers.Lost) × (result ≢ Err answers.NoMemory) }
     ensures tags { (key : List ℕ) → AreKeysOf keys.now key
         → IfMismatch result (λ tags. tags.found ≢ tags.kept) }
+    // Where the board tells its reads, each block reads as before.
     ensures same { IsTrue B.tells_reads
         → (B.view board.new).state.reads ≡ (B.view board.old).state.reads }
     ensures entry { IsTrue B.tells_reads → (key : List ℕ) → AreKeysOf keys.now key
@@ -212,16 +227,22 @@ pub fn find_leaf<B: Board>(
     leaf: u16,
     into: &mut [u8; 1024],
 ) -> Result<(), LeafAnswer>
+    // The board has the blocks of a tree.
     requires size { TREE_BLOCKS ≤ (B.view board.old).size }
+    // The region is one of the volume.
     requires region { region < MAX_HOSTS }
+    // The leaf is one of a region.
     requires leaf { leaf < REGION_LEAVES }
     ensures calls { CallRun (no_fault result) (B.view board.old) (B.view board.new) }
+    // No block is written.
     ensures writes { (B.view board.new).writes ≡ (B.view board.old).writes }
     ensures cause { result ≡ Err answers.Failed
         → Rose (B.view board.old).state.faults (B.view board.new).state.faults }
+    // `Lost` and `NoMemory` never come.
     ensures answer { (result ≢ Err answers.Lost) × (result ≢ Err answers.NoMemory) }
     ensures tags { (key : List ℕ) → AreKeysOf keys.now key
         → IfMismatch result (λ tags. tags.found ≢ tags.kept) }
+    // Where the board tells its reads, each block reads as before.
     ensures same { IsTrue B.tells_reads
         → (B.view board.new).state.reads ≡ (B.view board.old).state.reads }
     ensures text { IsTrue B.tells_reads → (key : List ℕ) → AreKeysOf keys.now key
@@ -244,6 +265,7 @@ pub fn find_leaf<B: Board>(
         → let look = on_image shape key (B.view board.old).state.reads in
         AreKept shape look root.now nodes.old.kept
         → AreKept shape look root.now nodes.new.kept }
+    // Under Err the nodes that are kept are as they were.
     ensures unread { OnErr result (nodes.new.kept ≡ nodes.old.kept) }
     ensures honest { B.honest board.old
         → B.honest board.new × OnlyReads (B.view board.old) (B.view board.new) }

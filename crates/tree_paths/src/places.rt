@@ -47,8 +47,10 @@ pub const PLACES: u64 = 17_489;
 
 /// The block of a copy of a place.
 pub fn block_at(place: u64, copy: u64) -> u64
+    // The place is one of the tree.
     requires { place < PLACES }
     ensures block { result ≡ block_of_copy shape place copy }
+    // It is a block of the tree.
     ensures below { result < TREE_BLOCKS }
 {
     FIRST_BLOCK + 2 * place + named_copy(copy)
@@ -56,6 +58,7 @@ pub fn block_at(place: u64, copy: u64) -> u64
 
 /// The place that a place is an entry of.
 pub fn parent(place: u64) -> u64
+    // The place is one of the tree.
     requires { place < PLACES }
     ensures { result ≡ shape.parent place }
 {
@@ -70,9 +73,12 @@ pub fn parent(place: u64) -> u64
 
 /// The number of the entry that a place is.
 pub fn slot(place: u64) -> usize
+    // The place is one of the tree.
     requires place { place < PLACES }
+    // The place isn't the root's.
     requires positive { 0 < place }
     ensures slot { result ≡ shape.slot place }
+    // It is less than the number of entries of a node.
     ensures below { result < FAN }
 {
     let number = if place < FIRST_BAND {
@@ -87,9 +93,12 @@ pub fn slot(place: u64) -> usize
 
 /// The place of a leaf of a region.
 pub fn leaf_place(region: u8, leaf: u16) -> u64
+    // The region is one of the volume.
     requires region { region < MAX_HOSTS }
+    // The leaf is one of a region.
     requires leaf { leaf < REGION_LEAVES }
     ensures place { result ≡ shape.leaf_place region leaf }
+    // It is a place of the tree.
     ensures below { result < PLACES }
     ensures level { shape.level result ≡ DEPTH }
 {

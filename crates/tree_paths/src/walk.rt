@@ -67,7 +67,7 @@ fn load_right<B: Board, L: Layout>(
     }
 }
 
-/// Verifies a place under its entry, and then all that is under it over so many levels, and gives how many places these
+/// Verifies a place under its entry, and then all that is under it over this many levels, and gives how many places these
 /// are. What an entry of sequence 0 names is left out.
 ///
 /// # Errors
@@ -80,15 +80,21 @@ pub fn check<B: Board, L: Layout>(
     place: u64,
     entry: &TreeEntry,
 ) -> Result<u32, VerifyAnswer>
+    // The board has a block for both copies of each place.
     requires size { L.shape.first_block + 2 * L.shape.places ≤ (B.view board.old).size }
+    // The place is one of the tree.
     requires place { place < L.shape.places }
+    // With these levels the walk ends at the leaves.
     requires levels { L.shape.level place + levels ≡ L.depth }
     ensures calls { CallRun (not (has_failed result)) (B.view board.old) (B.view board.new) }
+    // No block is written.
     ensures writes { (B.view board.new).writes ≡ (B.view board.old).writes }
     ensures cause { result ≡ Err answers.Failed
         → Rose (B.view board.old).state.faults (B.view board.new).state.faults }
+    // `Lost` never comes.
     ensures answer { result ≢ Err answers.Lost }
     ensures few { IfOk result (λ count. count ≤ most_visits levels) }
+    // Where the board tells its reads, each block reads as before.
     ensures same { IsTrue B.tells_reads
         → (B.view board.new).state.reads ≡ (B.view board.old).state.reads }
     ensures walk { IsTrue B.tells_reads → (key : List ℕ) → AreKeysOf keys.now key

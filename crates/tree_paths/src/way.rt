@@ -57,7 +57,9 @@ impl Way {
 
     /// The last node, which is taken away.
     pub fn pop(&mut self) -> Option<Passed>
+        // It is the first of the way before, and the way after has the others.
         ensures some { IfSome result (λ passed. self.old ≡ passed ∷ self.new) }
+        // Where there is none, the way is empty.
         ensures none { result ≡ None → self.new ≡ [] }
     {
         self.nodes.pop()

@@ -182,7 +182,7 @@ fn take_header<B: Board>(
     }
 }
 
-/// What is answered of a volume of version 1, told of the opening.
+/// What is answered of a volume of version 1, reported of the opening.
 fn refusal_from(why: OldAnswer) -> OpenAnswer
     ensures { result ≡ open_answer why }
 {

@@ -36,6 +36,7 @@ impl<B: Board + Drop> TreeVolume<B> {
     /// `Lost` where the volume is lost. `Failed` where a call of the board failed: the volume is then lost. `Wrong` with
     /// the first place whose tag isn't its entry's, and both tags.
     pub fn verify(&mut self) -> Result<u32, VerifyAnswer>
+        // `Lost` comes exactly where the volume was lost.
         ensures lost { (result ≡ Err answers.Lost) ↔ (self.old.lost ≡ true) }
         // a lost volume calls nothing
         ensures untouched { self.old.lost ≡ true → self.new ≡ self.old }

@@ -170,9 +170,12 @@ impl<B: Board + Drop> Volume for TreeVolume<B> {
         leaf: u16,
         into: &mut [u8; BLOCK_BYTES],
     ) -> Result<(), LeafAnswer>
+        // The region is one of the volume.
         requires region { region < MAX_HOSTS }
+        // The leaf is one of a region.
         requires leaf { leaf < REGION_LEAVES }
         ensures reads { ReadsLeaf tree_keeper region leaf into.new result self.old self.new }
+        // The root is as it was.
         ensures root { self.new.root ≡ self.old.root }
         // an Ok is the leaf of each image that the kept root seals, where equal tags come from equal messages
         ensures identified { IsTrue B.tells_reads → (image : ℕ → List ℕ)
@@ -204,13 +207,16 @@ impl<B: Board + Drop> Volume for TreeVolume<B> {
     }
 
     fn commit(&mut self, region: u8, leaves: &Leaves) -> Result<u64, LeafAnswer>
+        // The region is one of the volume.
         requires region { region < MAX_HOSTS }
         requires leaves { IsTrue (is_above_all leaves.now REGION_LEAVES) }
         ensures commits { CommitsLeaves tree_keeper region leaves.now result self.old self.new }
         // the leaves with the nodes above them, the header, and two gates
         ensures writes { (B.view self.new.board).writes
             ≤ (B.view self.old.board).writes + 2 * length leaves.now + 9 }
+        // Under Err the root is as it was.
         ensures root { OnErr result (self.new.root ≡ self.old.root) }
+        // Under Ok the new root has the sequence that is answered.
         ensures sealed_for { IfOk result (λ sequence. self.new.root.sequence ≡ sequence) }
         ensures made { IfOk result (λ sequence. IsMade B.tells_reads (B.view self.old.board)
             sequence region leaves.now self.old.root self.new.root) }

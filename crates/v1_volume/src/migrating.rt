@@ -80,6 +80,7 @@ pub fn migrate<B: Board>(
     root: &TreeEntry,
     sequence: u64,
 ) -> Result<TreeEntry, OldAnswer>
+    // The board has the blocks of a tree.
     requires size { TREE_BLOCKS ≤ (B.view board.old).size }
     requires keyed { AreKeysOf keys.now (B.view board.old).key }
     ensures calls { CallRun (no_fault result) (B.view board.old) (B.view board.new) }
@@ -98,9 +99,11 @@ pub fn migrate<B: Board>(
     // the first two tags that differ on the walk over all places; else the first region that breaks a rule
     ensures answer { IsTrue B.tells_reads → (key : List ℕ) → AreKeysOf keys.now key
         → AnswersOld (on_image first_shape key (B.view board.old).state.reads) root.now result }
+    // Under Ok the entry has the next sequence.
     ensures sealed_for { IfOk result (λ entry. entry.sequence ≡ sequence + 1) }
     ensures counter { B.honest board.old → IsSettledAt sequence (B.view board.old).state
         → IfOk result (λ entry. IsSettledAt (sequence + 1) (B.view board.new).state) }
+    // An honest board stays honest.
     ensures honest { B.honest board.old → B.honest board.new }
     ensures past { B.honest board.old → KeepsPast (B.view board.old) (B.view board.new) }
     // the blocks of the first version stay, whatever the image, and a crash leaves them as they were

@@ -42,7 +42,9 @@ impl OldRegion {
     ///
     /// The least leaf that breaks a rule, where one does.
     pub fn of(leaves: Vec<[u8; BLOCK_BYTES]>) -> Result<OldRegion, u8>
+        // There are 256 leaves, as many as a region of the first form has.
         requires { length leaves.items ≡ 256 }
+        // Under Ok the region has these leaves.
         ensures same { IfOk result (λ region. region ≡ leaves.items) }
         ensures stand { IfOk result (λ region. Stand (leaf_in region)) }
         ensures broken { IfErr result (λ leaf.
@@ -63,7 +65,7 @@ impl OldRegion {
     }
 }
 
-/// Reads so many leaves, in ascending order.
+/// Reads this many leaves, in ascending order.
 fn read_leaves<L: LeafSource>(
     from: &mut L,
     leaves: &mut Vec<[u8; BLOCK_BYTES]>,
@@ -94,6 +96,7 @@ fn read_leaves<L: LeafSource>(
 ///
 /// `Garbled` of the least leaf that breaks a rule; what a read of a leaf answers; `NoMemory`.
 pub fn check<L: LeafSource>(alloc: Global, from: &mut L) -> Result<OldRegion, StoreAnswer>
+    // There are at least 256 leaves to read.
     requires { 256 ≤ L.keeper.leaves }
     ensures { ChecksRegion L.keeper L.region result from.old from.new }
 {

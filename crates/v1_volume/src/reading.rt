@@ -55,7 +55,7 @@ fn verify<B: Board>(board: &mut B, keys: &Keys, root: &TreeEntry) -> Result<(), 
     }
 }
 
-/// Reads the leaves of a group behind those that were read, verified.
+/// Reads the leaves of a group after those that were read, verified.
 fn read_group<B: Board>(
     board: &mut B,
     keys: &Keys,
@@ -183,13 +183,17 @@ pub fn read_regions<B: Board>(
     keys: &Keys,
     root: &TreeEntry,
 ) -> Result<Vec<Leaves>, OldAnswer>
+    // The board has the blocks of a volume of the first version.
     requires size { BLOCKS ≤ (B.view board.old).size }
     ensures calls { CallRun (no_fault result) (B.view board.old) (B.view board.new) }
+    // No block is written.
     ensures writes { (B.view board.new).writes ≡ (B.view board.old).writes }
     ensures cause { result ≡ Err answers.Failed
         → Rose (B.view board.old).state.faults (B.view board.new).state.faults }
+    // Where the board tells its reads, each block reads as before.
     ensures same { IsTrue B.tells_reads
         → (B.view board.new).state.reads ≡ (B.view board.old).state.reads }
+    // Under Ok there is one list of leaves for each region.
     ensures whole { IfOk result (λ regions. length regions.items ≡ REGIONS) }
     // the first two tags that differ on the walk over all places, or none
     ensures walk { IsTrue B.tells_reads → (key : List ℕ) → AreKeysOf keys.now key

@@ -119,7 +119,7 @@ fn has_data(leaves: &[[u8; BLOCK_BYTES]], inode: usize) -> bool
     !has_past(leaves, inode)
 }
 
-/// Whether a leaf has zeros behind so many bytes.
+/// Whether a leaf has zeros after this many bytes.
 fn is_zero_behind(leaf: &[u8; BLOCK_BYTES], used: u32) -> bool
     ensures { result ≡ are_zero (drop used (take BLOCK_BYTES leaf.now)) }
 {

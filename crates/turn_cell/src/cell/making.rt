@@ -18,6 +18,7 @@ impl<T: Parted> TurnCell<T> {
         value: T,
         name: u32,
     ) -> Result<(TurnCell<T>, CellSeat<T>), Uncelled<T>>
+        // The value has at least one part.
         requires { 0 < length (T.parts_of value) }
         ensures cell { IfOk result (λ made. original_parts T.parts_of made.0 ≡ T.parts_of value) }
         ensures name { IfOk result (λ made. name_of made.0 ≡ name) }
@@ -25,6 +26,7 @@ impl<T: Parted> TurnCell<T> {
         ensures free { IfOk result (λ made. IsFree made.1) }
         ensures seat { IfOk result (λ made.
             view made.1 ≡ opening_view (T.parts_of value) (T.trail_of value)) }
+        // A refusal hands the value back.
         ensures err { IfErr result (λ refused. refused.value ≡ value) }
     {
         let about = Snapshot::of(&value);
