@@ -50,7 +50,7 @@ read_as client filled (Script line) = record { place = record { client = client;
 
 -- the rest of a text is a last line without an end that a carriage return alone ends. It is no line
 pub record IsLoneReturn (text line : Text) (rest : List ℕ) : Type 0 where
-  pub open : HasNoLineFeed text
+  pub unended : HasNoLineFeed text
   pub some : text ≢ []
   pub return : slice_index text (length text - 1) ≡ 13
   pub all : line ≡ text

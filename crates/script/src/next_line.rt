@@ -3,7 +3,7 @@
 ghost use Rattle.std.specs.Prelude.{◌≡◌, ◌≤◌, IfOk, IsErrOf};
 ghost use Rattle.app_api.specs.Hosts.{HostsFit};
 ghost use Rattle.script.specs.declared.words.LineError.TheVariants.{Bad as OutsideGrammar};
-ghost use Rattle.script.specs.Sessions.{HasNoMeaning, IsReadAs};
+ghost use Rattle.script.specs.Sessions.{HasNoMeaning, IsReadAs, read_as};
 ghost use Rattle.tee_base.specs.declared.limits.TheConstants.{MAX_FILL_BYTES};
 
 use crate::line::{Line, Meaning, ReadMeaning};
@@ -55,7 +55,10 @@ pub fn read_next<A: Application>(
     // A line that is refused has no meaning at this place.
     ensures bad { IsErrOf result OutsideGrammar → HasNoMeaning hosts.now place line.now }
 {
-    let ReadMeaning { meaning, fills } = meaning_of(alloc, hosts, place.client, line)?;
+    let ReadMeaning { meaning, fills } = match meaning_of(alloc, hosts, place.client, line) {
+        Ok(read) => read,
+        Err(error) => return Err(error),
+    };
     let filled = place.filled + fills;
     if filled > limits::MAX_FILL_BYTES {
         drop(meaning);
