@@ -1,6 +1,6 @@
 //! Serving the lines of a source over a board.
 
-ghost use Rattle.std.specs.Prelude.{◌≡◌, ◌≤◌, ◌⊎◌, ◌×◌, List, ℕ, Some, length};
+ghost use Rattle.std.specs.Prelude.{◌≡◌, ◌≤◌, ◌⊎◌, List, ℕ, Some, length};
 ghost use Rattle.app_api.specs.Hosts.{HostsFit};
 ghost use Rattle.run_board.specs.Endings.{OnSound, RunEnds, RunsAs};
 ghost use Rattle.run_board.specs.Layers.{RunsLines, point_of};
@@ -48,7 +48,9 @@ fn served_to_end(first: Option<u64>) -> Served {
 fn serve_next<B: Board, V: BoardVolume<B>, W: Sink, A: Application, T: WatchLines<B, V, A>>(
     alloc: Global,
     session: &mut Session<B, V, A>,
-    (number, next, line): (u64, Next, &[u8]),
+    number: u64,
+    next: Next,
+    line: &[u8],
     sink: &mut W,
     watch: &mut T,
 ) -> Result<Told, Stop>
@@ -94,12 +96,14 @@ fn serve_lines<
     requires ready { IsReady session.old }
     requires first { session.old.place ≡ FIRST_PLACE }
     ensures runs { (script : List Line)
-        × AreServedLines session.old.hosts.items (S.left source.old) (S.left source.new) script result
+        × AreServedLines session.old.hosts.items (S.left source.old) (S.left source.new)
+        script result
         × RunsLines A.behaviour V.form session.old.names.items script
         (λ world weather. events_of A.behaviour weather world script) result
         (point_of B.view B.honest V.board_of W.written W.failures session.old.tee sink.old)
         (point_of B.view B.honest V.board_of W.written W.failures session.new.tee sink.new) }
-    ensures fault { result ≡ Ok Served.ReadFault → Rose (S.failures source.old) (S.failures source.new) }
+    ensures fault { result ≡ Ok Served.ReadFault
+        → Rose (S.failures source.old) (S.failures source.new) }
     ensures later { S.failures source.old ≤ S.failures source.new }
 {
     let mut reader = LineReader::new(alloc);
@@ -111,7 +115,7 @@ fn serve_lines<
             Err(ReadAnswer::ReadFault) => return Ok(Served::ReadFault),
             Err(_) => return Err(Stop::NoMemory),
         };
-        let told = serve_next(alloc, session, (number, next, reader.line()), sink, watch)?;
+        let told = serve_next(alloc, session, number, next, reader.line(), sink, watch)?;
         if told == Told::Bad && first.is_none() {
             first = Some(number);
         }

@@ -1,6 +1,6 @@
 //! A session: a value, and the place at which its next line is read.
 
-ghost use Rattle.std.specs.Prelude.{◌≡◌, ◌×◌, List, Ok, length};
+ghost use Rattle.std.specs.Prelude.{◌≡◌, List, Ok, length};
 ghost use Rattle.app_api.specs.Hosts.{HostsFit};
 ghost use Rattle.run_board.specs.Layers.{RunsLines, point_of};
 ghost use Rattle.run_board.specs.Transcript.{events_of};

@@ -192,16 +192,18 @@ impl Fields {
         }
     }
 
-    /// Two numbers after words in a line for people; the second one is left out where it is 0.
+    /// A number after words in a line for people.
+    pub fn size(&mut self, words: &str, number: u32) -> Result<(), AllocError> {
+        match self.form {
+            Form::Words => write!(self.text, "{words}{number}"),
+            Form::Json => Ok(()),
+        }
+    }
+
+    /// Two numbers after words in a line for people.
     pub fn pair(&mut self, words: &str, first: u32, second: u32) -> Result<(), AllocError> {
-        if self.form == Form::Json {
-            return Ok(());
-        }
-        write!(self.text, "{words}{first}")?;
-        if second > 0 {
-            write!(self.text, ":{second}")?;
-        }
-        Ok(())
+        self.size(words, first)?;
+        self.size(" ", second)
     }
 
     /// A field of bytes.
@@ -238,6 +240,7 @@ impl Fields {
         let number = code.0;
         let name = code_name(code);
         match self.form {
+            Form::Words if name.is_empty() => write!(self.text, " {number:08x}"),
             Form::Words => write!(self.text, " {number:08x} {name}"),
             Form::Json => {
                 self.key(key)?;

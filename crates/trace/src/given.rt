@@ -15,12 +15,12 @@ fn write_param(fields: &mut Fields, param: &Param) -> Result<(), AllocError> {
             fields.words("mem ")?;
             fields.memory_words(bytes)
         }
-        Param::MemOut(size) => fields.pair("mem out ", *size, 0),
+        Param::MemOut(size) => fields.size("mem out ", *size),
         Param::MemInOut(bytes) => {
             fields.words("mem inout ")?;
             fields.memory_words(bytes)
         }
-        Param::Whole(block) => fields.pair("block ", *block, 0),
+        Param::Whole(block) => fields.size("block ", *block),
         Param::Part { block, at, .. } => fields.pair("part of block ", *block, *at),
     }
 }
@@ -77,7 +77,7 @@ fn write_out(fields: &mut Fields, out: &Out) -> Result<(), AllocError> {
             fields.words("mem ")?;
             fields.memory_words(bytes)
         }
-        Out::Size(size) => fields.pair("size ", *size, 0),
+        Out::Size(size) => fields.size("size ", *size),
     }
 }
 
@@ -114,7 +114,7 @@ pub fn write_answer(
         }
         Answer::Number(number) => {
             fields.word("answer", "Number")?;
-            fields.number("number", u64::from(*number))
+            fields.place("number", " ", u64::from(*number))
         }
         Answer::Truth(is_so) => {
             fields.word("answer", "Truth")?;
@@ -129,7 +129,7 @@ pub fn write_answer(
         }
         Answer::Short(size) => {
             fields.word("answer", "Short")?;
-            fields.number("size", u64::from(*size))
+            fields.place("size", " ", u64::from(*size))
         }
         Answer::Object { kind, length, .. } => {
             fields.word("answer", "Object")?;
