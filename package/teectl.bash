@@ -1,14 +1,14 @@
 # Completion of teectl for bash.
+shopt -s extglob
 _teectl() {
   local word=${COMP_WORDS[COMP_CWORD]} words=("${COMP_WORDS[@]:1:COMP_CWORD-1}")
   COMPREPLY=()
-  if [ "${words[0]-}" = --explain ]; then
+  while [[ ${words[0]-} == @(--explain|--marks|--trace|--trace=json) ]]; do
     words=("${words[@]:1}")
-  fi
+  done
   case ${#words[@]}:${words[0]-} in
-    0:) mapfile -t COMPREPLY < <(compgen -W 'run race gen --check --hosts --help --version --explain' -- "$word") ;;
-    1:run) mapfile -t COMPREPLY < <(compgen -f -X '*.@(ctr|key)' -- "$word") ;;
+    0:) mapfile -t COMPREPLY < <(compgen -W 'run serve race gen --check --hosts --help --version --explain --marks --trace --trace=json' -- "$word") ;;
+    1:run | 1:serve) mapfile -t COMPREPLY < <(compgen -f -X '*.@(ctr|key)' -- "$word") ;;
   esac
 }
-shopt -s extglob
 complete -o filenames -F _teectl teectl

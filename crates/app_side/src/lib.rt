@@ -3,6 +3,7 @@
 
 mod calls;
 mod cancelling;
+mod looking;
 mod no_store;
 mod operating;
 mod public;

@@ -6,4 +6,4 @@ mod grammar;
 mod line;
 mod wanted;
 
-pub use line::line_reason;
+pub use line::{line_reason, one_line_reason};

@@ -225,6 +225,20 @@ fn write_fault<A>(
     }
 }
 
+/// Why a line is no script line, after its number.
+fn reason_of<A>(
+    alloc: Global,
+    piece: Piece<'_>,
+    number: u64,
+    hosts: &[Host<A>],
+    dialect: Dialect,
+) -> Result<String, AllocError> {
+    let fault = fault_of(alloc, hosts, piece, dialect)?;
+    let mut reason = format!(in alloc; "line {number}")?;
+    write_fault(&mut reason, alloc, hosts, piece.line, fault)?;
+    Ok(reason)
+}
+
 /// Why the line of this number is no script line for these hosts, if the text has so many lines. It is asked of the line that a
 /// reading of the text named, for a caller that takes this of the grammar.
 pub fn line_reason<A>(
@@ -237,8 +251,19 @@ pub fn line_reason<A>(
     let Some(piece) = piece_of(text, number) else {
         return Ok(None);
     };
-    let fault = fault_of(alloc, hosts, piece, dialect)?;
-    let mut reason = format!(in alloc; "line {number}")?;
-    write_fault(&mut reason, alloc, hosts, piece.line, fault)?;
-    Ok(Some(reason))
+    Ok(Some(reason_of(alloc, piece, number, hosts, dialect)?))
+}
+
+/// Why a line that stands without its end is no script line for these hosts. It is told under this number.
+pub fn one_line_reason<A>(
+    alloc: Global,
+    line: &[u8],
+    number: u64,
+    hosts: &[Host<A>],
+) -> Result<String, AllocError> {
+    let piece = Piece {
+        line,
+        is_ended: true,
+    };
+    reason_of(alloc, piece, number, hosts, Dialect::Whole)
 }

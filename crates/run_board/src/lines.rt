@@ -17,6 +17,7 @@ ghost use Rattle.run_board.specs.Reading.{IsKnown};
 ghost use Rattle.run_board.specs.Transcript.{events_of, happens, line_events, until_events};
 
 use crate::output::{write_happened, write_power};
+use crate::watch::Watch;
 use app_api::{Application, Call};
 use board::Board;
 use epoch::{BoardVolume, OpenAnswer};
@@ -70,13 +71,14 @@ fn name_of(names: &[Bytes], app: u8) -> &[u8]
 ///
 /// The event may not have been made, or not written to its end. `NoMemory` stands also where the application has no room for
 /// one more turn: 2^63 were made.
-fn run_event<B: Board, V: BoardVolume<B>, A: Application, W: Sink>(
+fn run_event<B: Board, V: BoardVolume<B>, A: Application, W: Sink, T: Watch<B, V, A>>(
     alloc: Global,
     names: &[Bytes],
     tee: &mut TeeOver<B, V, A>,
     app: u8,
     event: Event,
     sink: &mut W,
+    watch: &mut T,
 ) -> Result<(u64, u8), Stop>
     requires names { length names.now ≡ app_count tee.old }
     requires words { AreFirstWords names.now }
@@ -98,10 +100,12 @@ fn run_event<B: Board, V: BoardVolume<B>, A: Application, W: Sink>(
         return Err(Stop::NoMemory);
     }
     // the answer is read where it stands, since its table of replies is large
+    watch.before(tee, &event);
     let answer = tee.event(event);
     let Ok(happened) = &answer else {
         return Err(Stop::NoMemory);
     };
+    watch.after(tee, app, happened);
     let written = write_happened(alloc, name_of(names, app), happened, sink);
     let made = (happened.op, happened.instance);
     drop(answer);
@@ -110,7 +114,7 @@ fn run_event<B: Board, V: BoardVolume<B>, A: Application, W: Sink>(
 }
 
 /// So many turns of an instance.
-fn run_turns<B: Board, V: BoardVolume<B>, A: Application, W: Sink>(
+fn run_turns<B: Board, V: BoardVolume<B>, A: Application, W: Sink, T: Watch<B, V, A>>(
     alloc: Global,
     names: &[Bytes],
     tee: &mut TeeOver<B, V, A>,
@@ -118,6 +122,7 @@ fn run_turns<B: Board, V: BoardVolume<B>, A: Application, W: Sink>(
     instance: u8,
     count: u32,
     sink: &mut W,
+    watch: &mut T,
 ) -> Result<(), Stop>
     requires names { length names.now ≡ app_count tee.old }
     requires words { AreFirstWords names.now }
@@ -129,13 +134,21 @@ fn run_turns<B: Board, V: BoardVolume<B>, A: Application, W: Sink>(
         (point_of B.view B.honest V.board_of W.written W.failures tee.new sink.new) }
 {
     for _ in 0..count {
-        run_event(alloc, names, tee, app, Event::Turn { app, instance }, sink)?;
+        run_event(
+            alloc,
+            names,
+            tee,
+            app,
+            Event::Turn { app, instance },
+            sink,
+            watch,
+        )?;
     }
     Ok(())
 }
 
 /// Turns of an instance until the operation is answered, or the instance waits.
-fn run_until<B: Board, V: BoardVolume<B>, A: Application, W: Sink>(
+fn run_until<B: Board, V: BoardVolume<B>, A: Application, W: Sink, T: Watch<B, V, A>>(
     alloc: Global,
     names: &[Bytes],
     tee: &mut TeeOver<B, V, A>,
@@ -143,6 +156,7 @@ fn run_until<B: Board, V: BoardVolume<B>, A: Application, W: Sink>(
     instance: u8,
     op: u64,
     sink: &mut W,
+    watch: &mut T,
 ) -> Result<(), Stop>
     requires names { length names.now ≡ app_count tee.old }
     requires words { AreFirstWords names.now }
@@ -157,13 +171,21 @@ fn run_until<B: Board, V: BoardVolume<B>, A: Application, W: Sink>(
         if tee.is_over(app, instance, op) {
             return Ok(());
         }
-        run_event(alloc, names, tee, app, Event::Turn { app, instance }, sink)?;
+        run_event(
+            alloc,
+            names,
+            tee,
+            app,
+            Event::Turn { app, instance },
+            sink,
+            watch,
+        )?;
     }
     Ok(())
 }
 
 /// A call, and unless it is posted turns of its instance until it is answered or the instance waits.
-fn run_call<B: Board, V: BoardVolume<B>, A: Application, W: Sink>(
+fn run_call<B: Board, V: BoardVolume<B>, A: Application, W: Sink, T: Watch<B, V, A>>(
     alloc: Global,
     names: &[Bytes],
     tee: &mut TeeOver<B, V, A>,
@@ -172,6 +194,7 @@ fn run_call<B: Board, V: BoardVolume<B>, A: Application, W: Sink>(
     post: bool,
     call: Call,
     sink: &mut W,
+    watch: &mut T,
 ) -> Result<(), Stop>
     requires names { length names.now ≡ app_count tee.old }
     requires words { AreFirstWords names.now }
@@ -190,11 +213,12 @@ fn run_call<B: Board, V: BoardVolume<B>, A: Application, W: Sink>(
         app,
         Event::Call { app, client, call },
         sink,
+        watch,
     )?;
     if post {
         return Ok(());
     }
-    run_until(alloc, names, tee, app, instance, op, sink)
+    run_until(alloc, names, tee, app, instance, op, sink, watch)
 }
 
 /// A loss of power, which is written once the board is opened again.
@@ -252,12 +276,13 @@ fn run_ticks<B: Board, V: BoardVolume<B>, A: Application, W: Sink>(
 }
 
 /// Runs a line.
-fn run_line<B: Board, V: BoardVolume<B>, A: Application, W: Sink>(
+pub fn run_line<B: Board, V: BoardVolume<B>, A: Application, W: Sink, T: Watch<B, V, A>>(
     alloc: Global,
     names: &[Bytes],
     tee: &mut TeeOver<B, V, A>,
     line: Line,
     sink: &mut W,
+    watch: &mut T,
 ) -> Result<(), Stop>
     requires names { length names.now ≡ app_count tee.old }
     requires words { AreFirstWords names.now }
@@ -274,15 +299,23 @@ fn run_line<B: Board, V: BoardVolume<B>, A: Application, W: Sink>(
             client,
             post,
             call,
-        } => run_call(alloc, names, tee, app, client, post, call, sink),
+        } => run_call(alloc, names, tee, app, client, post, call, sink, watch),
         Line::Turns {
             app,
             instance,
             count,
             ..
-        } => run_turns(alloc, names, tee, app, instance, count, sink),
+        } => run_turns(alloc, names, tee, app, instance, count, sink, watch),
         Line::Cancel { app, op, .. } => {
-            run_event(alloc, names, tee, app, Event::Cancel { app, op }, sink)?;
+            run_event(
+                alloc,
+                names,
+                tee,
+                app,
+                Event::Cancel { app, op },
+                sink,
+                watch,
+            )?;
             Ok(())
         }
         Line::Fuse(calls) => {
@@ -295,12 +328,13 @@ fn run_line<B: Board, V: BoardVolume<B>, A: Application, W: Sink>(
 }
 
 /// Runs all lines of a script.
-pub fn run_lines<B: Board, V: BoardVolume<B>, A: Application, W: Sink>(
+pub fn run_lines<B: Board, V: BoardVolume<B>, A: Application, W: Sink, T: Watch<B, V, A>>(
     alloc: Global,
     names: &[Bytes],
     tee: &mut TeeOver<B, V, A>,
     lines: Vec<Line>,
     sink: &mut W,
+    watch: &mut T,
 ) -> Result<(), Stop>
     requires names { length names.now ≡ app_count tee.old }
     requires words { AreFirstWords names.now }
@@ -313,7 +347,7 @@ pub fn run_lines<B: Board, V: BoardVolume<B>, A: Application, W: Sink>(
 {
     let mut rest = VecDeque::from(lines);
     while let Some(line) = rest.pop_front() {
-        run_line(alloc, names, tee, line, sink)?;
+        run_line(alloc, names, tee, line, sink, watch)?;
     }
     Ok(())
 }

@@ -17,6 +17,7 @@ use crate::generated::{gen_number, run_generated};
 use crate::lines::{Stop, run_lines};
 use crate::reading::{names_of, read_lines};
 use crate::status::{Status, refusal_status, stop_status};
+use crate::watch::NoWatch;
 use app_api::{Application, Host};
 use board::Board;
 use epoch::{BoardVolume, Unopened};
@@ -71,7 +72,14 @@ pub fn serve<B: Board, V: BoardVolume<B>, W: Sink, A: Application>(
         Ok(tee) => tee,
         Err(Unopened { board, why }) => return (refusal_status(why), board),
     };
-    let status = run_status(run_lines(alloc, names.as_slice(), &mut tee, lines, sink));
+    let status = run_status(run_lines(
+        alloc,
+        names.as_slice(),
+        &mut tee,
+        lines,
+        sink,
+        &mut NoWatch,
+    ));
     (status, tee.into_board())
 }
 

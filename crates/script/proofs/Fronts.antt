@@ -16,7 +16,7 @@ abbrev pub EndsAtLine : List ℕ → Type 0
 EndsAtLine front = (front ≡ []) ⊎ ((lines : List ℕ) × (front ≡ lines ++ codes "\n"))
 
 -- the same by recursion
-abbrev Ended : List ℕ → Type 0
+abbrev pub Ended : List ℕ → Type 0
 Ended [] = Unit {0}
 Ended (c ∷ []) = c ≡ 10
 Ended (c ∷ d ∷ cs) = Ended (d ∷ cs)
@@ -26,7 +26,7 @@ ended_push [] = refl
 ended_push (c ∷ []) = refl
 ended_push (c ∷ d ∷ cs) = ended_push (d ∷ cs)
 
-ended : (front : List ℕ) → EndsAtLine front → Ended front
+pub ended : (front : List ℕ) → EndsAtLine front → Ended front
 ended front (inl e) = subst Ended (sym e) tt
 ended front (inr h) = subst Ended (sym h.1) (ended_push h.0)
 
@@ -52,11 +52,12 @@ cut_front (p ∷ ps) behind (f ∷ g ∷ fs) rest none some end e =
     let others : g ∷ fs ≡ ps ++ 10 ∷ r.0 = r.1 in
     (r.0, ap (λ (x : ℕ). x ∷ g ∷ fs) (sym head) ∙ ap (λ (xs : List ℕ). p ∷ xs) others, r.2, r.3)
 
-abbrev place_at : Place → List ℕ → Place
+-- the place with this text
+abbrev pub place_at : Place → List ℕ → Place
 place_at at rest = record { client = at.client; filled = at.filled; rest = rest }
 
 -- what is left of a front behind its first line
-first_of_front : (front rest line behind : List ℕ) → front ≢ [] → Ended front → IsFirstLine (front ++ rest) line behind
+pub first_of_front : (front rest line behind : List ℕ) → front ≢ [] → Ended front → IsFirstLine (front ++ rest) line behind
     → (more : List ℕ) × IsFirstLine front line more × (behind ≡ more ++ rest) × Ended more
 first_of_front front rest line behind some end (inl h) =
     let c = cut_front h.0 behind front rest h.1 some end (sym (at_feed h.0 behind) ∙ sym h.2) in
@@ -108,7 +109,7 @@ read_front dialect hosts at after (f ∷ fs) rest (meaning ∷ meanings) end e h
     } in
     front_behind dialect hosts at h.0 (f ∷ fs) c.0 meaning meanings is taken.0 (read_front dialect hosts h.0 after c.0 rest meanings c.3 c.2 h.2 whole taken.1)
 
-flat_append : (some more : List Meaning) → flat_map lines_of (some ++ more) ≡ flat_map lines_of some ++ flat_map lines_of more
+pub flat_append : (some more : List Meaning) → flat_map lines_of (some ++ more) ≡ flat_map lines_of some ++ flat_map lines_of more
 flat_append [] more = refl
 flat_append (m ∷ some) more = ap (λ (ls : List Line). lines_of m ++ ls) (flat_append some more) ∙ sym (append_assoc (lines_of m) (flat_map lines_of some) (flat_map lines_of more))
 

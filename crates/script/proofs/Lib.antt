@@ -11,6 +11,8 @@ pub mod Places
 pub mod ScriptTexts
 pub mod ParseLaws
 pub mod Fronts
+pub mod NextLines
+pub mod ServedLines
 pub mod PrintedWords
 pub mod CanonicalTexts
 pub mod Draws

@@ -35,7 +35,7 @@ cut_once p q x y np nq e =
     let others : slice_split (λ c. eqb c 10) x ≡ slice_split (λ c. eqb c 10) y = cc in
     (first, sym (join_with_byte-slice_split 10 x) ∙ ap (join_with_byte 10) others ∙ join_with_byte-slice_split 10 y)
 
-no_feed : (piece rest : List ℕ) → HasNoLineFeed (piece ++ 10 ∷ rest) → ⊥
+pub no_feed : (piece rest : List ℕ) → HasNoLineFeed (piece ++ 10 ∷ rest) → ⊥
 no_feed piece rest h = (all_split (λ c. c ≢ 10) piece (10 ∷ rest) h).1.0 refl
 
 pub first_same : (text a x b y : List ℕ) → IsFirstLine text a x → IsFirstLine text b y → (a ≡ b) × (x ≡ y)
@@ -56,7 +56,7 @@ none_first line rest (inr h) = h.1 refl
 
 -- ---- the next line
 
-same_place : (a b : Place) → a.client ≡ b.client → a.filled ≡ b.filled → a.rest ≡ b.rest → a ≡ b
+pub same_place : (a b : Place) → a.client ≡ b.client → a.filled ≡ b.filled → a.rest ≡ b.rest → a ≡ b
 same_place a b client filled rest = λ i. record { client = client i; filled = filled i; rest = rest i }
 
 pub next_same : {A : Type 0} (hosts : List (Host A)) (at : Place) (m n : Meaning) (a b : Place) → HostsFit hosts → IsNext hosts at m a → IsNext hosts at n b → (m ≡ n) × (a ≡ b)

@@ -5,5 +5,6 @@ pub mod Lines
 pub mod Numbers
 pub mod Parameters
 pub mod Scripts
+pub mod Sessions
 pub mod Words
 pub mod Workload

@@ -4,6 +4,7 @@
 mod directories;
 mod events;
 mod happened;
+mod looking;
 mod power;
 mod run;
 mod sides;

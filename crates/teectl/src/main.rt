@@ -6,15 +6,18 @@ mod check;
 mod command;
 mod kept;
 mod listing;
+mod looker;
+mod serving;
 mod texts;
 mod why;
 mod words;
 
 use crate::blank::{BLANK_SEED, blank_board};
 use crate::check::check_script;
-use crate::command::{Asked, asked_for, without_explain};
+use crate::command::{Asked, Options, asked_with, without_options};
 use crate::kept::KeptSource;
 use crate::listing::host_lines;
+use crate::serving::{serve_in_memory, serve_over_files};
 use crate::why::{Ended, version_in, with_file_reason, with_reason, with_version};
 use board::Board;
 use boards::{FileBoard, FileBoardFailed};
@@ -205,14 +208,18 @@ fn answer<R: Threads + Wait + Sync>(
     threads: &R,
     alloc: Global,
     words: &[String],
-    explains: bool,
+    options: &Options,
 ) -> Ended {
-    match asked_for(words) {
+    let explains = options.explains || rt.stderr().is_terminal();
+    match asked_with(words, options) {
         Asked::Help => print(rt, texts::HELP),
         Asked::Version => print(rt, texts::VERSION),
         Asked::Hosts => print_hosts(rt, alloc),
         Asked::Check => check_input(rt, alloc),
         Asked::RunOver(image) => run_over_files(rt, alloc, words, image, explains),
+        Asked::Serve(None) => serve_in_memory(rt, alloc, options),
+        Asked::Serve(Some(image)) => serve_over_files(rt, alloc, image, options, explains),
+        Asked::Nothing => with_reason::<()>(alloc, Status::BadWords, None, &[], Dialect::Whole),
         Asked::Race => race_in_memory(rt, threads, alloc, words, explains),
         Asked::Run => run_in_memory(rt, alloc, words, explains),
     }
@@ -222,9 +229,8 @@ fn main(rt: HostRuntime) -> ExitCode {
     let alloc = rt.alloc();
     let ended = match words::words(&rt, alloc) {
         Ok(words) => {
-            let (words, is_asked) = without_explain(words.as_slice());
-            let explains = is_asked || rt.stderr().is_terminal();
-            answer(&rt, &rt, alloc, words, explains)
+            let (words, options) = without_options(words.as_slice());
+            answer(&rt, &rt, alloc, words, &options)
         }
         Err(status) => Ended::plain(status),
     };

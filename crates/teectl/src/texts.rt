@@ -7,6 +7,9 @@ usage: teectl run       run the script on standard input over an empty board in 
                         replies to standard output; at a terminal ctrl-D ends the script
        teectl run IMAGE run it over the board of the files IMAGE, IMAGE.ctr and IMAGE.key, which keeps
                         the applications' objects
+       teectl serve     read a line, run it, write its replies, and read the next, over an empty board in
+                        memory; a line that is none is told and left out
+       teectl serve IMAGE the same over the board of the files IMAGE, IMAGE.ctr and IMAGE.key
        teectl race      run each client of the script on standard input in a thread of its own, over an
                         empty board in memory, and write the log of each host; without board lines
        teectl gen N     run the workload of number N, 2,000 generated lines, over an empty board in memory,
@@ -17,7 +20,8 @@ usage: teectl run       run the script on standard input over an empty board in 
        teectl --version print the version
 
 With --explain before these words, and wherever standard error is a terminal, a second line there says why
-a run ended so.
+a run ended so. Before serve, --marks writes a mark after each line for programs, and --trace or --trace=json
+tells on standard error what happens inside.
 
 IMAGE.key has 64 bytes, the key of the board and the seed of random bytes. IMAGE and IMAGE.ctr are made
 where they are missing.
