@@ -37,6 +37,6 @@ returns g c inst found w =
     let m : Machine g.row.A.Denot = machine_of c.args.self.now in
     let r : ActiveEntry = entry_with c.args.entry w in
     subst (λ (s : Stepped g.row.A.Denot). IsTurned c.wait.new.self c.args.replies.now s) (sym (begun m inst r c.args.ticks c.if-entry-ge-MAX_ASKS.false)) (record {
-      machine = c.wait.ensures inst found w ∙ ap (λ (d : Option ℕ). (waited m inst (ask_counted r) d).machine) c.deadline.ensures;
+      machine = c.wait.ensures inst found w ∙ ap (λ (d : Option ℕ). (waited m inst (ask_counted r) d).machine) c.deadline-deadline.ensures;
       replies = c.requires.none;
     })
