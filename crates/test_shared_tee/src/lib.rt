@@ -13,3 +13,5 @@ mod memory;
 mod pair;
 #[cfg(test)]
 mod shared;
+#[cfg(test)]
+mod waits;

@@ -42,8 +42,8 @@ invariant_of-pass g c =
     let w = known c.give.new.seat in
     let id = cell_id_of c.give.new.seat in
     let back =
-    gave_back g.V.Volume.keeper g.A.Application.behaviour (λ x. cell_id x) t.cells.items c.index-cell.result.now (cell_id t.storage) c.args.self.now p c.args.pass.now c.pass.view_is
-    c.requires.of c.self.view_is c.index-cell.ensures h h _ gives id u w c.give.ensures.own c.in-Ok.ensures.others c.give.ensures.given in
+    gave_back g.V.Volume.keeper g.A.Application.behaviour (λ x. cell_id x) t.cells.items c.index-own.result.now (cell_id t.storage) c.args.self.now p c.args.pass.now c.pass.view_is
+    c.requires.of c.self.view_is c.index-own.ensures h h _ gives id u w c.give.ensures.own c.in-Ok.ensures.others c.give.ensures.given in
     back.is
 
 pub returns-in-Ok-clause-of : goal.returns-in-Ok-clause-of
@@ -59,8 +59,8 @@ returns-in-Ok-clause-of g c =
     let w = known c.give.new.seat in
     let id = cell_id_of c.give.new.seat in
     let back =
-    gave_back g.V.Volume.keeper g.A.Application.behaviour (λ x. cell_id x) t.cells.items c.index-cell.result.now (cell_id t.storage) c.args.self.now p c.args.pass.now c.pass.view_is
-    c.requires.of c.self.view_is c.index-cell.ensures h h _ gives id u w c.give.ensures.own c.in-Ok.ensures.others c.give.ensures.given in
+    gave_back g.V.Volume.keeper g.A.Application.behaviour (λ x. cell_id x) t.cells.items c.index-own.result.now (cell_id t.storage) c.args.self.now p c.args.pass.now c.pass.view_is
+    c.requires.of c.self.view_is c.index-own.ensures h h _ gives id u w c.give.ensures.own c.in-Ok.ensures.others c.give.ensures.given in
     back.of
 
 pub returns-in-Ok-clause-goes : goal.returns-in-Ok-clause-goes
@@ -76,8 +76,8 @@ returns-in-Ok-clause-goes g c =
     let w = known c.give.new.seat in
     let id = cell_id_of c.give.new.seat in
     let back =
-    gave_back g.V.Volume.keeper g.A.Application.behaviour (λ x. cell_id x) t.cells.items c.index-cell.result.now (cell_id t.storage) c.args.self.now p c.args.pass.now c.pass.view_is
-    c.requires.of c.self.view_is c.index-cell.ensures h h _ gives id u w c.give.ensures.own c.in-Ok.ensures.others c.give.ensures.given in
+    gave_back g.V.Volume.keeper g.A.Application.behaviour (λ x. cell_id x) t.cells.items c.index-own.result.now (cell_id t.storage) c.args.self.now p c.args.pass.now c.pass.view_is
+    c.requires.of c.self.view_is c.index-own.ensures h h _ gives id u w c.give.ensures.own c.in-Ok.ensures.others c.give.ensures.given in
     back.goes
 
 pub returns-in-Ok-clause-ok : goal.returns-in-Ok-clause-ok
@@ -93,9 +93,9 @@ returns-in-Ok-clause-ok g c =
     let w = known c.give.new.seat in
     let id = cell_id_of c.give.new.seat in
     let back =
-    gave_back g.V.Volume.keeper g.A.Application.behaviour (λ x. cell_id x) t.cells.items c.index-cell.result.now (cell_id t.storage) c.args.self.now p c.args.pass.now c.pass.view_is
-    c.requires.of c.self.view_is c.index-cell.ensures h h _ gives id u w c.give.ensures.own c.in-Ok.ensures.others c.give.ensures.given in
-    tells_wait g.V.Volume.keeper g.A.Application.behaviour p h gives id back.same_cell u w u.turn c.in-Ok.ensures.others c.give.ensures.given c.waits.result c.args.instance c.waits.ensures
+    gave_back g.V.Volume.keeper g.A.Application.behaviour (λ x. cell_id x) t.cells.items c.index-own.result.now (cell_id t.storage) c.args.self.now p c.args.pass.now c.pass.view_is
+    c.requires.of c.self.view_is c.index-own.ensures h h _ gives id u w c.give.ensures.own c.in-Ok.ensures.others c.give.ensures.given in
+    tells_wait g.V.Volume.keeper g.A.Application.behaviour p h gives id back.same_cell u w u.turn c.in-Ok.ensures.others c.give.ensures.given c.waits-waits.result c.args.instance c.waits-waits.ensures
 
 pub returns-in-Ok-clause-same : goal.returns-in-Ok-clause-same
 returns-in-Ok-clause-same g c =
@@ -111,8 +111,8 @@ returns-in-Ok-clause-same g c =
     let id = cell_id_of c.give.new.seat in
     let new : PassView g.row.V.Denot g.row.A.Denot = record { app = s.app; client = s.client; calls = s.calls + 1; cell = id; seat = w } in
     let back =
-    gave_back g.V.Volume.keeper g.A.Application.behaviour (λ x. cell_id x) t.cells.items c.index-cell.result.now (cell_id t.storage) c.args.self.now p c.args.pass.now c.pass.view_is
-    c.requires.of c.self.view_is c.index-cell.ensures h h _ gives id u w c.give.ensures.own c.in-Ok.ensures.others c.give.ensures.given in
+    gave_back g.V.Volume.keeper g.A.Application.behaviour (λ x. cell_id x) t.cells.items c.index-own.result.now (cell_id t.storage) c.args.self.now p c.args.pass.now c.pass.view_is
+    c.requires.of c.self.view_is c.index-own.ensures h h _ gives id u w c.give.ensures.own c.in-Ok.ensures.others c.give.ensures.given in
     subst (λ (x : PassView g.row.V.Denot g.row.A.Denot). MakesNothing x new) c.pass.view_is
     (makes_nothing g.V.Volume.keeper g.A.Application.behaviour p h h gives id back.same_cell u w u.turn c.in-Ok.ensures.others c.give.ensures.given refl)
 
@@ -122,8 +122,8 @@ invariant_of-pass-in-Err g c =
     let p : PassView g.row.V.Denot g.row.A.Denot = record { app = s.app; client = s.client; calls = s.calls; cell = cell_id_of s.seat; seat = known s.seat } in
     let t = c.self.inside in
     let vain =
-    tried_in_vain g.V.Volume.keeper g.A.Application.behaviour (λ x. cell_id x) t.cells.items c.index-cell.result.now (cell_id t.storage) c.args.self.now p c.args.pass.now c.pass.view_is
-    c.requires.of c.self.view_is c.index-cell.ensures c.pass.invariant (cell_id_of c.try_take.new.seat) (known c.try_take.new.seat)
+    tried_in_vain g.V.Volume.keeper g.A.Application.behaviour (λ x. cell_id x) t.cells.items c.index-own.result.now (cell_id t.storage) c.args.self.now p c.args.pass.now c.pass.view_is
+    c.requires.of c.self.view_is c.index-own.ensures c.pass.invariant (cell_id_of c.try_take.new.seat) (known c.try_take.new.seat)
     c.in-Err.busy.word c.in-Err.ensures.own c.in-Err.ensures.missed in
     vain.is
 
@@ -133,8 +133,8 @@ returns-in-Err-clause-of g c =
     let p : PassView g.row.V.Denot g.row.A.Denot = record { app = s.app; client = s.client; calls = s.calls; cell = cell_id_of s.seat; seat = known s.seat } in
     let t = c.self.inside in
     let vain =
-    tried_in_vain g.V.Volume.keeper g.A.Application.behaviour (λ x. cell_id x) t.cells.items c.index-cell.result.now (cell_id t.storage) c.args.self.now p c.args.pass.now c.pass.view_is
-    c.requires.of c.self.view_is c.index-cell.ensures c.pass.invariant (cell_id_of c.try_take.new.seat) (known c.try_take.new.seat)
+    tried_in_vain g.V.Volume.keeper g.A.Application.behaviour (λ x. cell_id x) t.cells.items c.index-own.result.now (cell_id t.storage) c.args.self.now p c.args.pass.now c.pass.view_is
+    c.requires.of c.self.view_is c.index-own.ensures c.pass.invariant (cell_id_of c.try_take.new.seat) (known c.try_take.new.seat)
     c.in-Err.busy.word c.in-Err.ensures.own c.in-Err.ensures.missed in
     vain.of
 
@@ -144,8 +144,8 @@ returns-in-Err-clause-goes g c =
     let p : PassView g.row.V.Denot g.row.A.Denot = record { app = s.app; client = s.client; calls = s.calls; cell = cell_id_of s.seat; seat = known s.seat } in
     let t = c.self.inside in
     let vain =
-    tried_in_vain g.V.Volume.keeper g.A.Application.behaviour (λ x. cell_id x) t.cells.items c.index-cell.result.now (cell_id t.storage) c.args.self.now p c.args.pass.now c.pass.view_is
-    c.requires.of c.self.view_is c.index-cell.ensures c.pass.invariant (cell_id_of c.try_take.new.seat) (known c.try_take.new.seat)
+    tried_in_vain g.V.Volume.keeper g.A.Application.behaviour (λ x. cell_id x) t.cells.items c.index-own.result.now (cell_id t.storage) c.args.self.now p c.args.pass.now c.pass.view_is
+    c.requires.of c.self.view_is c.index-own.ensures c.pass.invariant (cell_id_of c.try_take.new.seat) (known c.try_take.new.seat)
     c.in-Err.busy.word c.in-Err.ensures.own c.in-Err.ensures.missed in
     vain.goes
 
@@ -155,10 +155,10 @@ returns-in-Err-clause-err g c =
     let p : PassView g.row.V.Denot g.row.A.Denot = record { app = s.app; client = s.client; calls = s.calls; cell = cell_id_of s.seat; seat = known s.seat } in
     let t = c.self.inside in
     let vain =
-    tried_in_vain g.V.Volume.keeper g.A.Application.behaviour (λ x. cell_id x) t.cells.items c.index-cell.result.now (cell_id t.storage) c.args.self.now p c.args.pass.now c.pass.view_is
-    c.requires.of c.self.view_is c.index-cell.ensures c.pass.invariant (cell_id_of c.try_take.new.seat) (known c.try_take.new.seat)
+    tried_in_vain g.V.Volume.keeper g.A.Application.behaviour (λ x. cell_id x) t.cells.items c.index-own.result.now (cell_id t.storage) c.args.self.now p c.args.pass.now c.pass.view_is
+    c.requires.of c.self.view_is c.index-own.ensures c.pass.invariant (cell_id_of c.try_take.new.seat) (known c.try_take.new.seat)
     c.in-Err.busy.word c.in-Err.ensures.own c.in-Err.ensures.missed in
     let new : PassView g.row.V.Denot g.row.A.Denot = record { app = s.app; client = s.client; calls = s.calls + 1; cell = cell_id_of c.try_take.new.seat; seat = known c.try_take.new.seat } in
-    let name = (c.self.invariant.each s.app c.index-cell.result.now vain.found).name in
+    let name = (c.self.invariant.each s.app c.index-own.result.now vain.found).name in
     subst (λ (x : PassView g.row.V.Denot g.row.A.Denot). FindsOwnCellTaken (answers.Busy c.in-Err.busy) x new) c.pass.view_is
     (c.in-Err.ensures.busy.0 ∙ name, c.in-Err.ensures.busy.1, vain.misses)
