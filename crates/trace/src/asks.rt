@@ -54,6 +54,10 @@ pub fn ask_name(ask: &Ask) -> &'static str {
         Ask::CancelUnmask => "CancelUnmask",
         Ask::ClientIdentity => "ClientIdentity",
         Ask::Random { .. } => "Random",
+        Ask::Wait { .. } => "Wait",
+        Ask::SystemTime => "SystemTime",
+        Ask::SetAppTime { .. } => "SetAppTime",
+        Ask::AppTime => "AppTime",
         Ask::ObjOpen { .. } => "ObjOpen",
         Ask::ObjCreate { .. } => "ObjCreate",
         Ask::ObjClose { .. } => "ObjClose",
@@ -194,6 +198,10 @@ fn key_arguments(fields: &mut Fields, ask: &Ask) -> Result<(), AllocError> {
             numbers(fields, &[("operation", *op), ("object", *object)])
         }
         Ask::Random { count } => numbers(fields, &[("count", *count)]),
+        Ask::Wait { ticks } => numbers(fields, &[("ticks", *ticks)]),
+        Ask::SetAppTime { seconds, millis } => {
+            numbers(fields, &[("seconds", *seconds), ("millis", *millis)])
+        }
         Ask::Panic { code } => fields.code("code", *code),
         _ => Ok(()),
     }

@@ -156,6 +156,11 @@ pub fn write_answer(
             fields.word("answer", "Identity")?;
             fields.number("login", u64::from(*login))
         }
+        Answer::Time { seconds, millis } => {
+            fields.word("answer", "Time")?;
+            fields.number("seconds", u64::from(*seconds))?;
+            fields.number("millis", u64::from(*millis))
+        }
         Answer::Sealed { content, tag } => {
             fields.word("answer", "Sealed")?;
             fields.bytes("content", content)?;

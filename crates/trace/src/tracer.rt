@@ -6,7 +6,7 @@ use crate::fields::{Fields, Form};
 use crate::given::{write_answer, write_entry, write_return};
 use crate::misuse::{Misuse, misuse_of};
 use alone::{ActiveEntry, Instance, Reply, TurnKind, Waits};
-use app_api::{Application, Ask, Entry, Given};
+use app_api::{Answer, Application, Ask, Entry, Given};
 use run_board::Watch;
 use std::alloc::{AllocError, Global};
 use store_api::Volume;
@@ -40,6 +40,8 @@ enum Look {
     Rests,
     /// Its application is about to be given something.
     Thinks,
+    /// It waits for ticks.
+    Waits,
     /// What was asked for is about to be done. The line so far, and why it may be misuse.
     Acts {
         line: Fields,
@@ -171,6 +173,34 @@ fn write_outcome<A>(
     line.end()
 }
 
+/// That a wait is over, and how it is answered.
+fn write_wait_over(line: &mut Fields, answer: &Answer) -> Result<(), AllocError> {
+    line.json_word("step", "wait_over")?;
+    line.words("the wait is over")?;
+    write_answer(line, answer, false)?;
+    line.end()
+}
+
+/// What an instance does that is given nothing next: it waits, rests or is gone.
+fn write_rest<A>(line: &mut Fields, instance: Option<&Instance<A>>) -> Result<(), AllocError> {
+    match waiting(instance) {
+        Some(
+            ActiveEntry {
+                waits: Waits::Until(Some(tick)),
+                ..
+            },
+        ) => line.place("waits_until", " -> waits until tick ", *tick),
+        Some(
+            ActiveEntry {
+                waits: Waits::Until(None),
+                ..
+            },
+        ) => line.words(" -> waits without an end"),
+        _ if instance.is_none() => line.words("; the instance ends"),
+        _ => Ok(()),
+    }
+}
+
 /// The entry that comes right after a return.
 fn write_next(line: &mut Fields, entry: &Entry) -> Result<(), AllocError> {
     if line.form() == Form::Json {
@@ -280,6 +310,7 @@ impl<O: Told> Tracer<O> {
         };
         match &entry.waits {
             Waits::Given(_) => Look::Thinks,
+            Waits::Until(_) => Look::Waits,
             Waits::Ask(ask) => match self.line_of_ask(at, entry.op, ask) {
                 Ok(line) => Look::Acts {
                     line,
@@ -316,7 +347,24 @@ impl<O: Told> Tracer<O> {
                     }
                 }
             }
+            Look::Waits => self.tell_wait_over(app, instance, happened),
             Look::Nothing | Look::Thinks => {}
+        }
+    }
+
+    /// Tells that a wait is over, where it is.
+    fn tell_wait_over<A>(&mut self, app: u8, instance: Option<&Instance<A>>, happened: &Happened) {
+        let (Some(Given::Answer(answer)), Some(entry)) = (given_to(instance), waiting(instance))
+        else {
+            return;
+        };
+        let at = (app, happened.instance, happened.turn);
+        let mut line = Fields::new(self.alloc, self.form);
+        let written = self
+            .write_front(&mut line, at, entry.op)
+            .and_then(|()| write_wait_over(&mut line, answer));
+        if written.is_ok() {
+            self.tell(&line);
         }
     }
 
