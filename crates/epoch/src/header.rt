@@ -1,6 +1,5 @@
 //! The header of a volume and the entry of its root, and their bytes.
 ghost use Rattle.std.specs.Prelude.{◌≡◌, ◌≤◌, ◌<◌, ◌+◌, ℕ, List, length, take};
-ghost use Rattle.seal.specs.Keys.{AreKeysOf};
 ghost use Rattle.epoch.specs.Parts.{part};
 ghost use Rattle.epoch.specs.Slots.{header_slot};
 ghost use Rattle.epoch.specs.declared.slots.Slot.TheVariants.{Good};
@@ -78,8 +77,7 @@ pub(crate) fn header_from(block: &[u8; 1024]) -> Header
 #[tactic(auto, unfolding(crate::specs::Header::header_tag))]
 pub(crate) fn tag_of_header(keys: &Keys, slot: u8, block: &[u8; 1024]) -> [u8; 32]
     requires { slot < 2 }
-    ensures { (key : List ℕ) → AreKeysOf keys.now key
-        → result ≡ header_tag key slot (take TAGGED block.now) }
+    ensures { result ≡ header_tag keys.now slot (take TAGGED block.now) }
 {
     let mut mac = keys.tagger();
     mac.update(&(SLOT_0 + u64::from(slot)).to_le_bytes());
@@ -97,10 +95,8 @@ pub(crate) fn kept_tag(block: &[u8; 1024]) -> [u8; 32]
 /// The block of a header in a slot.
 pub(crate) fn block_of_header(keys: &Keys, slot: u8, header: Header) -> [u8; 1024]
     requires { slot < 2 }
-    ensures block { (key : List ℕ) → AreKeysOf keys.now key
-        → IsHeaderBlock key slot header result }
-    ensures good { (key : List ℕ) → AreKeysOf keys.now key
-        → header_slot key slot result ≡ Good header }
+    ensures block { IsHeaderBlock keys.now slot header result }
+    ensures good { header_slot keys.now slot result ≡ Good header }
 {
     let mut block = [0; 1024];
     put(&mut block, 0, TEXT);

@@ -3,7 +3,6 @@ ghost use Rattle.std.specs.Prelude.{◌≡◌, ◌≤◌, ◌<◌, ◌+◌, ℕ,
 ghost use Rattle.board.specs.Moment.{View};
 ghost use Rattle.board.specs.Runs.{RunsOver};
 ghost use Rattle.board.specs.Steps.{CallRun, SameBlocks, Settles, Unchanged};
-ghost use Rattle.seal.specs.Keys.{AreKeysOf};
 ghost use Rattle.epoch.specs.Past.{KeepsPast};
 ghost use Rattle.epoch.specs.Slots.{header_slot, slot_of};
 
@@ -36,8 +35,7 @@ pub struct Seen {
 #[tactic(auto, unfolding(crate::specs::Slots::header_slot))]
 fn read_header(keys: &Keys, slot: u8, block: &[u8; 1024]) -> Slot
     requires { slot < 2 }
-    ensures { (key : List ℕ) → AreKeysOf keys.now key
-        → result ≡ header_slot key slot block.now }
+    ensures { result ≡ header_slot keys.now slot block.now }
 {
     let found = tag_of_header(keys, slot, block);
     let kept = kept_tag(block);
@@ -55,8 +53,8 @@ fn look<B: Board>(board: &mut B, keys: &Keys, slot: u8) -> Result<Slot, BoardFai
     requires size { 4 ≤ (B.view board.old).size }
     ensures calls { CallRun (is_ok result) (B.view board.old) (B.view board.new) }
     ensures writes { (B.view board.new).writes ≡ (B.view board.old).writes }
-    ensures slot { IsTrue B.tells_reads → (key : List ℕ) → AreKeysOf keys.now key
-        → IfOk result (λ s. s ≡ slot_of key (B.view board.old).state.reads slot) }
+    ensures slot { IsTrue B.tells_reads
+        → IfOk result (λ s. s ≡ slot_of keys.now (B.view board.old).state.reads slot) }
     ensures same { IsTrue B.tells_reads
         → (B.view board.new).state.reads ≡ (B.view board.old).state.reads }
     ensures honest { B.honest board.old → B.honest board.new }
@@ -82,9 +80,9 @@ pub fn gather<B: Board>(board: &mut B, keys: &Keys) -> Result<Seen, BoardFailed>
     requires { 4 ≤ (B.view board.old).size }
     ensures calls { CallRun (is_ok result) (B.view board.old) (B.view board.new) }
     ensures writes { (B.view board.new).writes ≡ (B.view board.old).writes }
-    ensures slots { IsTrue B.tells_reads → (key : List ℕ) → AreKeysOf keys.now key
-        → IfOk result (λ seen. (seen.first ≡ slot_of key (B.view board.old).state.reads 0)
-        × (seen.second ≡ slot_of key (B.view board.old).state.reads 1)) }
+    ensures slots { IsTrue B.tells_reads
+        → IfOk result (λ seen. (seen.first ≡ slot_of keys.now (B.view board.old).state.reads 0)
+        × (seen.second ≡ slot_of keys.now (B.view board.old).state.reads 1)) }
     ensures honest { B.honest board.old → B.honest board.new }
     ensures past { B.honest board.old → KeepsPast (B.view board.old) (B.view board.new) }
     ensures blocks { B.honest board.old

@@ -7,12 +7,13 @@ ghost use Rattle.mac_digest.specs.Hmac.{hmac_of};
 ghost use Rattle.mac_digest.specs.Mac.{HoldsKeyedMessage};
 ghost use Rattle.mac_digest.specs.declared.digests.Hash.TheVariants as hash_by;
 ghost use Rattle.seal.specs.Sealing.{le64, cipher_key, tag_key, seal_vector, seal_tag};
-ghost use Rattle.seal.specs.Keys.{AreKeysOf};
 
 use crate::codes::CodeKey;
 use aes_core::{Key, expand};
 use aes_modes::{Mode, Way, start};
 use mac_digest::{Hash, Mac, hmac};
+use std::marker::Model;
+use std::snapshot::Snapshot;
 
 /// The text whose code under the board's key is the key of initial vectors.
 const VECTOR_TEXT: &[u8; 6] = b"tee iv";
@@ -23,20 +24,34 @@ const CIPHER_TEXT: &[u8; 10] = b"tee cipher";
 /// The text whose code under the board's key is the key of tags.
 const TAG_TEXT: &[u8; 7] = b"tee tag";
 
-/// The keys of a board: of initial vectors, of the cipher and of tags.
+/// The keys of a board: of initial vectors, of the cipher and of tags. Contracts see the board's key in them.
 #[derive(Drop)]
 pub struct Keys {
     vector: CodeKey,
     cipher: Key,
     tag: CodeKey,
     tagger: Mac,
+    /// The board's key. It has no bytes.
+    board: Snapshot<[u8; 32]>,
+}
+
+impl Model for Keys {
+    ghost use Rattle.std.specs.Prelude.{ℕ, List};
+
+    ghost Value = { List ℕ };
+
+    ghost use Rattle.seal.specs.Keys.{AreMadeOf};
+
+    ghost view = { λ k. k.board.value };
+
+    ghost invariant = { λ k. AreMadeOf k.board.value k.vector k.cipher k.tag k.tagger };
 }
 
 impl Keys {
     /// The keys that belong to a board's key.
     #[tactic(auto, unfolding(crate::specs::Sealing::vector_key, crate::specs::Sealing::cipher_key, crate::specs::Sealing::tag_key))]
     pub fn of(key: &[u8; 32]) -> Keys
-        ensures { AreKeysOf result key.now }
+        ensures { result ≡ key.now }
     {
         let vector = derived_key(key, VECTOR_TEXT);
         let cipher = derived_key(key, CIPHER_TEXT);
@@ -46,21 +61,20 @@ impl Keys {
             cipher: expand(&cipher).unwrap(),
             tag: CodeKey::of(&tag),
             tagger: hmac(Hash::Sha256, &tag),
+            board: Snapshot::of(key),
         }
     }
 
     /// A tag at the start of its message. What it is fed with is authenticated under the key of tags.
     pub fn tagger(&self) -> Mac
-        ensures { (key : List ℕ) → AreKeysOf self.now key
-            → HoldsKeyedMessage result hash_by.Sha256 (tag_key key) [] }
+        ensures { HoldsKeyedMessage result hash_by.Sha256 (tag_key self.now) [] }
     {
         self.tagger.clone().unwrap()
     }
 
     /// The initial vector of a block.
     pub(crate) fn vector_of(&self, place: u64, sequence: u64, plain: &[u8; 1024]) -> [u8; 16]
-        ensures { (key : List ℕ) → AreKeysOf self.now key
-            → result ≡ seal_vector key place sequence plain.now }
+        ensures { result ≡ seal_vector self.now place sequence plain.now }
     {
         let head = numbers(place, sequence);
         let code = self.vector.code_of(&head, plain);
@@ -77,8 +91,7 @@ impl Keys {
         iv: &[u8; 16],
         cipher: &[u8; 1024],
     ) -> [u8; 32]
-        ensures { (key : List ℕ) → AreKeysOf self.now key
-            → result ≡ seal_tag key place sequence iv.now cipher.now }
+        ensures { result ≡ seal_tag self.now place sequence iv.now cipher.now }
     {
         let mut head = [0; 32];
         head[..16].copy_from_slice(&numbers(place, sequence));
@@ -88,8 +101,7 @@ impl Keys {
 
     /// A block through the cipher in counter mode, one way or the other.
     pub(crate) fn convert(&self, way: Way, iv: [u8; 16], from: &[u8; 1024], into: &mut [u8; 1024])
-        ensures { (key : List ℕ) → AreKeysOf self.now key
-            → into.new ≡ mode_text mode_of.Ctr way (cipher_key key) iv from.now }
+        ensures { into.new ≡ mode_text mode_of.Ctr way (cipher_key self.now) iv from.now }
     {
         let mut stream = start(self.cipher, Mode::Ctr, way, iv);
         let _count = stream.update(from, into).unwrap();

@@ -1,6 +1,5 @@
 //! A block that is sealed, and opened again.
 ghost use Rattle.std.specs.Prelude.{◌≡◌, ◌≢◌, ℕ, List, IsOk, OnOk, OnErr, IfErr};
-ghost use Rattle.seal.specs.Keys.{AreKeysOf};
 ghost use Rattle.seal.specs.Sealing.{SealsBlock, plaintext, seal_tag};
 
 use crate::keys::Keys;
@@ -24,8 +23,7 @@ pub fn seal_leaf(
     plain: &[u8; 1024],
     into: &mut [u8; 1024],
 ) -> Tags
-    ensures { (key : List ℕ) → AreKeysOf keys.now key
-        → SealsBlock key place sequence plain.now result into.new }
+    ensures { SealsBlock keys.now place sequence plain.now result into.new }
 {
     let iv = keys.vector_of(place, sequence, plain);
     keys.convert(Way::Encrypt, iv, plain, into);
@@ -48,15 +46,14 @@ pub fn open_leaf(
     cipher: &[u8; 1024],
     into: &mut [u8; 1024],
 ) -> Result<(), Mismatch>
-    ensures opened { (key : List ℕ) → AreKeysOf keys.now key
-        → OnOk result ((seal_tag key place sequence tags.now.iv cipher.now ≡ tags.now.tag)
-        × (into.new ≡ plaintext key tags.now.iv cipher.now)) }
-    ensures mismatch { (key : List ℕ) → AreKeysOf keys.now key
-        → IfErr result (λ m. (m.found ≡ seal_tag key place sequence tags.now.iv cipher.now)
+    ensures opened { OnOk result
+        ((seal_tag keys.now place sequence tags.now.iv cipher.now ≡ tags.now.tag)
+        × (into.new ≡ plaintext keys.now tags.now.iv cipher.now)) }
+    ensures mismatch { IfErr result
+        (λ m. (m.found ≡ seal_tag keys.now place sequence tags.now.iv cipher.now)
         × (m.kept ≡ tags.now.tag) × (m.found ≢ m.kept)) }
     ensures same { OnErr result (into.new ≡ into.old) }
-    ensures sealed { (key plain : List ℕ) → AreKeysOf keys.now key
-        → SealsBlock key place sequence plain tags.now cipher.now
+    ensures sealed { (plain : List ℕ) → SealsBlock keys.now place sequence plain tags.now cipher.now
         → IsOk result × (into.new ≡ plain) }
 {
     let found = keys.seal_tag_of(place, sequence, &tags.iv, cipher);

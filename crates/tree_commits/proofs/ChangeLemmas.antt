@@ -8,7 +8,6 @@ use Rattle.tee_base.specs.declared.limits.TheConstants.{MAX_HOSTS}
 use Rattle.store_api.specs.Ascending.{is_above_all}
 use Rattle.store_api.specs.Volumes.{leaf_after, with_named_leaves}
 use Rattle.store_api.specs.declared.leaves.Leaf.{Leaf}
-use Rattle.seal.specs.declared.keys.Keys.{Keys}
 use Rattle.epoch.proofs.AloneLemmas.{all_but, but_other}
 use Rattle.epoch.specs.Commits.{IsWritten, spare}
 use Rattle.epoch.specs.Forms.{all_below, is_leaf, is_sealed, leaves_of}
@@ -81,13 +80,22 @@ no_leaf n r l none region =
     let two : nat_lt l n ≡ false = subst (λ (b : Bool). (b && nat_lt l n) ≡ false) one none in
     grind (arith, nat_tests, two)
 
-module _ (key : List ℕ) (old new : ℕ → List ℕ) (keys : Keys) (nodes : List Node) (region : ℕ) (leaves : List Leaf) (root e : TreeEntry)
+module _ (key : List ℕ) (old new : ℕ → List ℕ) (keys : List ℕ) (nodes : List Node) (region : ℕ) (leaves : List Leaf) (root e : TreeEntry)
     (within : region < MAX_HOSTS) (inside : is_above_all leaves 1024 ≡ true) (fits : FitsTree keys nodes region leaves root key old)
     (sealed : is_sealed (tree shape) key old (tree_root shape root) ≡ true)
-    (damage : (place : ℕ) → place < 17489
-    → damage_of shape (on_image shape key new) e place ≡ damage_of shape (with_new (fresh_of nodes) (on_image shape key old)) root place)
-    (text : (place : ℕ) → place < 17489 → shape.level place ≡ 4
-    → text_of shape (on_image shape key new) e place ≡ text_of shape (with_new (fresh_of nodes) (on_image shape key old)) root place) where
+    (damage_by : (place : ℕ) → place < 17489
+    → damage_of shape (on_image shape keys new) e place ≡ damage_of shape (with_new (fresh_of nodes) (on_image shape keys old)) root place)
+    (text_by : (place : ℕ) → place < 17489 → shape.level place ≡ 4
+    → text_of shape (on_image shape keys new) e place ≡ text_of shape (with_new (fresh_of nodes) (on_image shape keys old)) root place) where
+  damage : (place : ℕ) → place < 17489 → damage_of shape (on_image shape key new) e place ≡ damage_of shape (with_new (fresh_of nodes) (on_image shape key old)) root place
+  damage = subst (λ (k : List ℕ). (place : ℕ) → place < 17489 → damage_of shape (on_image shape k new) e place
+      ≡ damage_of shape (with_new (fresh_of nodes) (on_image shape k old)) root place) fits.keyed damage_by
+
+  text : (place : ℕ) → place < 17489 → shape.level place ≡ 4
+      → text_of shape (on_image shape key new) e place ≡ text_of shape (with_new (fresh_of nodes) (on_image shape key old)) root place
+  text = subst (λ (k : List ℕ). (place : ℕ) → place < 17489 → shape.level place ≡ 4 → text_of shape (on_image shape k new) e place
+      ≡ text_of shape (with_new (fresh_of nodes) (on_image shape k old)) root place) fits.keyed text_by
+
   place_in : (r l : ℕ) → r < MAX_HOSTS → l < 1024 → shape.leaf_place r l < 17489
   place_in r l hr hl = is_shape.leaf_inside r l hr hl
 

@@ -1,7 +1,5 @@
 -- What a commit gathered of a tree fits the board.
 use Rattle.std.proofs.Common.{◌<◌, ◌∙◌, ℕ, List, [], ◌∷◌, refl, sym, ap, arith}
-use Rattle.seal.specs.Keys.{AreKeysOf}
-use Rattle.seal.specs.declared.keys.Keys.{Keys}
 use Rattle.store_api.specs.declared.leaves.Leaf.{Leaf}
 use Rattle.epoch.specs.Forms.{SameUsed}
 use Rattle.epoch.specs.declared.header.TreeEntry.{TreeEntry}
@@ -17,9 +15,9 @@ use Rattle.tree_paths.specs.Tree.{Found, on_image}
 use Rattle.tee_base.specs.Words.{Image, Key}
 
 -- the keys are those of the board's key, and the nodes are those that a commit of these leaves touches, as they stand under the root
-pub record FitsTree (keys : Keys) (nodes : List Node) (region : ℕ) (leaves : List Leaf) (root : TreeEntry) (key : Key)
+pub record FitsTree (keys : List ℕ) (nodes : List Node) (region : ℕ) (leaves : List Leaf) (root : TreeEntry) (key : Key)
     (reads : ℕ → List ℕ) : Type 0 where
-  pub keyed : AreKeysOf keys key
+  pub keyed : keys ≡ key
   pub ordered : AreOrdered shape nodes
   pub named : AreOfLeaves nodes region leaves
   pub stands : AreTrue shape (on_image shape key reads) root DEPTH nodes
@@ -51,7 +49,7 @@ true_same s is key root base image same some depth nodes ordered are = record {
   copies = in_use_same s is key root base image same some nodes ordered are.copies;
 }
 
-pub tree_still_fits : (keys : Keys) (nodes : List Node) (region : ℕ) (leaves : List Leaf) (root : TreeEntry) (key : Key) (base image : Image)
+pub tree_still_fits : (keys : List ℕ) (nodes : List Node) (region : ℕ) (leaves : List Leaf) (root : TreeEntry) (key : Key) (base image : Image)
     → SameUsed (tree shape) key (tree_root shape root) base image → FitsTree keys nodes region leaves root key base → FitsTree keys nodes region leaves root key image
 tree_still_fits keys nodes region leaves root key base image same fits = record {
   keyed = fits.keyed;

@@ -3,7 +3,6 @@ ghost use Rattle.std.specs.Prelude.{◌≡◌, ◌<◌, true, length};
 ghost use Rattle.tee_base.specs.declared.limits.TheConstants.{MAX_HOSTS};
 ghost use Rattle.store_api.specs.Ascending.{is_above_all};
 ghost use Rattle.store_api.specs.Volumes.{with_named_leaves};
-ghost use Rattle.seal.specs.Keys.{AreKeysOf};
 ghost use Rattle.tree_commits.specs.Change.{FitsTree, tree_still_fits};
 ghost use Rattle.tree_paths.specs.Form.{form_root, tree_form};
 ghost use Rattle.tree_paths.specs.Frame.{form_framed};
@@ -46,7 +45,7 @@ impl Change for TreeChange<'_> {
 
     ghost keeps = { λ c key reads. Unit {0} };
 
-    ghost checks = { λ c key. AreKeysOf c.keys.now key };
+    ghost checks = { λ c key. c.keys.now ≡ key };
 
     ghost seals = { λ old new key sequence. AreOrdered shape old.touched → AreSealed shape DEPTH key sequence old.touched new.root };
 

@@ -7,7 +7,6 @@ ghost use Rattle.store_api.specs.Volumes.{IfMismatch, ShowsLeaf};
 ghost use Rattle.store_api.specs.declared.leaves.LeafAnswer.TheVariants as answers;
 ghost use Rattle.board.specs.Steps.{CallRun};
 ghost use Rattle.epoch.specs.Reading.{OnlyReads, no_fault};
-ghost use Rattle.seal.specs.Keys.{AreKeysOf};
 ghost use Rattle.tree_commits.specs.Gather.{AreGathered, AreTrue, IsOnWay, IsPushed, leaf_among};
 ghost use Rattle.tree_paths.specs.Kept.{AreKept, IsFoundUnder};
 ghost use Rattle.tree_paths.specs.Shape.{shape};
@@ -40,17 +39,16 @@ fn take_in<B: Board>(
     ensures cause { result ≡ Err answers.Failed
         → Rose (B.view board.old).state.faults (B.view board.new).state.faults }
     ensures answer { result ≢ Err answers.Lost }
-    ensures tags { (key : List ℕ) → AreKeysOf keys.now key
-        → IfMismatch result (λ tags. tags.found ≢ tags.kept) }
+    ensures tags { IfMismatch result (λ tags. tags.found ≢ tags.kept) }
     ensures same { IsTrue B.tells_reads
         → (B.view board.new).state.reads ≡ (B.view board.old).state.reads }
     ensures pushed { OnOk result (IsPushed place entry.now.copy touched.old touched.new) }
-    ensures text { IsTrue B.tells_reads → (key : List ℕ) → AreKeysOf keys.now key
-        → let look = on_image shape key (B.view board.old).state.reads in
+    ensures text { IsTrue B.tells_reads
+        → let look = on_image shape keys.now (B.view board.old).state.reads in
         IsFoundUnder kept.now look place entry.now
         → OnOk result (fresh_of touched.new place ≡ Some (look place entry.now).text) }
-    ensures damage { IsTrue B.tells_reads → (key : List ℕ) → AreKeysOf keys.now key
-        → let look = on_image shape key (B.view board.old).state.reads in
+    ensures damage { IsTrue B.tells_reads
+        → let look = on_image shape keys.now (B.view board.old).state.reads in
         IsFoundUnder kept.now look place entry.now
         → ShowsLeaf result (damage_at look place entry.now) }
     ensures honest { B.honest board.old
@@ -89,8 +87,7 @@ fn hold<B: Board>(
     ensures cause { result ≡ Err answers.Failed
         → Rose (B.view board.old).state.faults (B.view board.new).state.faults }
     ensures answer { result ≢ Err answers.Lost }
-    ensures tags { (key : List ℕ) → AreKeysOf keys.now key
-        → IfMismatch result (λ tags. tags.found ≢ tags.kept) }
+    ensures tags { IfMismatch result (λ tags. tags.found ≢ tags.kept) }
     ensures same { IsTrue B.tells_reads
         → (B.view board.new).state.reads ≡ (B.view board.old).state.reads }
     ensures gathered { OnOk result (AreGathered shape touched.new) }
@@ -100,12 +97,12 @@ fn hold<B: Board>(
     // nothing changes among the places that lie deeper
     ensures deeper { OnOk result ((p : ℕ) → level < shape.level p
         → fresh_of touched.new p ≡ fresh_of touched.old p) }
-    ensures nodes { IsTrue B.tells_reads → (key : List ℕ) → AreKeysOf keys.now key
-        → let look = on_image shape key (B.view board.old).state.reads in
+    ensures nodes { IsTrue B.tells_reads
+        → let look = on_image shape keys.now (B.view board.old).state.reads in
         AreKept shape look root.now kept.now → AreTrue shape look root.now DEPTH touched.old
         → OnOk result (AreTrue shape look root.now DEPTH touched.new) }
-    ensures damage { IsTrue B.tells_reads → (key : List ℕ) → AreKeysOf keys.now key
-        → let look = on_image shape key (B.view board.old).state.reads in
+    ensures damage { IsTrue B.tells_reads
+        → let look = on_image shape keys.now (B.view board.old).state.reads in
         AreKept shape look root.now kept.now → AreTrue shape look root.now DEPTH touched.old
         → ShowsLeaf result (damage_of shape look root.now place) }
     ensures honest { B.honest board.old
@@ -143,8 +140,7 @@ fn add_leaf<B: Board>(
     ensures cause { result ≡ Err answers.Failed
         → Rose (B.view board.old).state.faults (B.view board.new).state.faults }
     ensures answer { result ≢ Err answers.Lost }
-    ensures tags { (key : List ℕ) → AreKeysOf keys.now key
-        → IfMismatch result (λ tags. tags.found ≢ tags.kept) }
+    ensures tags { IfMismatch result (λ tags. tags.found ≢ tags.kept) }
     ensures same { IsTrue B.tells_reads
         → (B.view board.new).state.reads ≡ (B.view board.old).state.reads }
     ensures ordered { OnOk result (AreOrdered shape touched.new) }
@@ -156,12 +152,12 @@ fn add_leaf<B: Board>(
     ensures others { OnOk result ((p : ℕ) → shape.level p ≡ DEPTH
         → p ≢ shape.leaf_place region leaf.now.number
         → fresh_of touched.new p ≡ fresh_of touched.old p) }
-    ensures nodes { IsTrue B.tells_reads → (key : List ℕ) → AreKeysOf keys.now key
-        → let look = on_image shape key (B.view board.old).state.reads in
+    ensures nodes { IsTrue B.tells_reads
+        → let look = on_image shape keys.now (B.view board.old).state.reads in
         AreKept shape look root.now kept.now → AreTrue shape look root.now DEPTH touched.old
         → OnOk result (AreTrue shape look root.now DEPTH touched.new) }
-    ensures damage { IsTrue B.tells_reads → (key : List ℕ) → AreKeysOf keys.now key
-        → let look = on_image shape key (B.view board.old).state.reads in
+    ensures damage { IsTrue B.tells_reads
+        → let look = on_image shape keys.now (B.view board.old).state.reads in
         AreKept shape look root.now kept.now → AreTrue shape look root.now DEPTH touched.old
         → IfMismatch result (λ tags.
         damage_of shape look root.now (shape.leaf_place region leaf.now.number) ≡ Some tags) }
@@ -203,8 +199,7 @@ pub fn gather<B: Board>(
     ensures cause { result ≡ Err answers.Failed
         → Rose (B.view board.old).state.faults (B.view board.new).state.faults }
     ensures answer { result ≢ Err answers.Lost }
-    ensures tags { (key : List ℕ) → AreKeysOf keys.now key
-        → IfMismatch result (λ tags. tags.found ≢ tags.kept) }
+    ensures tags { IfMismatch result (λ tags. tags.found ≢ tags.kept) }
     ensures same { IsTrue B.tells_reads
         → (B.view board.new).state.reads ≡ (B.view board.old).state.reads }
     ensures ordered { IfOk result (λ t. AreOrdered shape t) }
@@ -213,15 +208,15 @@ pub fn gather<B: Board>(
         → fresh_of t (shape.leaf_place region l) ≡ leaf_among leaves.now l) }
     ensures elsewhere { IfOk result (λ t. (r l : ℕ) → r ≢ region → l < REGION_LEAVES
         → fresh_of t (shape.leaf_place r l) ≡ None) }
-    ensures nodes { IsTrue B.tells_reads → (key : List ℕ) → AreKeysOf keys.now key
-        → let look = on_image shape key (B.view board.old).state.reads in
+    ensures nodes { IsTrue B.tells_reads
+        → let look = on_image shape keys.now (B.view board.old).state.reads in
         AreKept shape look root.now kept.now
         → IfOk result (λ t. AreTrue shape look root.now DEPTH t) }
-    ensures damage { IsTrue B.tells_reads → (key : List ℕ) → AreKeysOf keys.now key
-        → AreKept shape (on_image shape key (B.view board.old).state.reads) root.now kept.now
+    ensures damage { IsTrue B.tells_reads
+        → AreKept shape (on_image shape keys.now (B.view board.old).state.reads) root.now kept.now
         → (n : ℕ) → 0 < n → n ≤ REGION_LEAVES → All (λ leaf. leaf.number < n) leaves.now
         → IfMismatch result (λ tags. (l : ℕ) × (l < n)
-        × (damage_of shape (on_image shape key (B.view board.old).state.reads) root.now
+        × (damage_of shape (on_image shape keys.now (B.view board.old).state.reads) root.now
         (shape.leaf_place region l) ≡ Some tags)) }
     ensures honest { B.honest board.old
         → B.honest board.new × OnlyReads (B.view board.old) (B.view board.new) }

@@ -3,7 +3,6 @@ ghost use Rattle.std.specs.Prelude.{◌≡◌, ◌≢◌, ◌≤◌, ◌<◌, �
 ghost use Rattle.board.specs.Moment.{View};
 ghost use Rattle.board.specs.Runs.{RunsOver};
 ghost use Rattle.board.specs.Steps.{CallRun, up_to_limit};
-ghost use Rattle.seal.specs.Keys.{AreKeysOf};
 ghost use Rattle.epoch.specs.Past.{KeepsPast};
 ghost use Rattle.epoch.specs.declared.header.TreeEntry.{TreeEntry as Entry};
 ghost use Rattle.tree_commits.specs.Gather.{AreGathered};
@@ -40,13 +39,12 @@ pub fn write_node<B: Board>(
         → RunsOver open_at base low high first (B.view board.new) }
     ensures elsewhere { B.honest board.old → (k : ℕ) → k ≢ spare_block shape node.now
         → (B.view board.new).state.reads k ≡ (B.view board.old).state.reads k }
-    ensures found { B.honest board.old → (key : List ℕ) → AreKeysOf keys.now key
-        → IfOk result (λ entry.
-        on_image shape key (B.view board.new).state.reads node.now.place entry
+    ensures found { B.honest board.old → IfOk result (λ entry.
+        on_image shape keys.now (B.view board.new).state.reads node.now.place entry
         ≡ entry_of_known node.now.bytes entry) }
     ensures sealed_for { IfOk result (λ entry. entry.sequence ≡ sequence) }
-    ensures sealed { (key : List ℕ) → AreKeysOf keys.now key
-        → IfOk result (λ entry. IsSealedFor key node.now.place sequence node.now.bytes entry) }
+    ensures sealed { IfOk result (λ entry. IsSealedFor keys.now node.now.place sequence
+        node.now.bytes entry) }
 {
     let copy = other_copy(node.copy);
     let mut cipher = [0; 1024];
@@ -77,8 +75,8 @@ pub fn write_all<B: Board>(
         ≤ (B.view board.old).writes + length touched.old }
     ensures gathered { AreGathered shape touched.new }
     ensures sealed_for { IfOk result (λ entry. entry.sequence ≡ sequence) }
-    ensures sealed { AreOrdered shape touched.old → (key : List ℕ) → AreKeysOf keys.now key
-        → IfOk result (λ entry. AreSealed shape DEPTH key sequence touched.old entry) }
+    ensures sealed { AreOrdered shape touched.old
+        → IfOk result (λ entry. AreSealed shape DEPTH keys.now sequence touched.old entry) }
     ensures honest { B.honest board.old → B.honest board.new }
     ensures past { B.honest board.old → KeepsPast (B.view board.old) (B.view board.new) }
     ensures run { B.honest board.old
@@ -90,18 +88,16 @@ pub fn write_all<B: Board>(
     ensures before { B.honest board.old → (k : ℕ) → k < FIRST_BLOCK
         → (B.view board.new).state.reads k ≡ (B.view board.old).state.reads k }
     ensures damage { B.honest board.old → AreOrdered shape touched.old
-        → (key : List ℕ) → AreKeysOf keys.now key
         → IfOk result (λ entry. (root : Entry) (place : ℕ) → place < PLACES
-        → damage_of shape (on_image shape key (B.view board.new).state.reads) entry place
+        → damage_of shape (on_image shape keys.now (B.view board.new).state.reads) entry place
         ≡ damage_of shape (with_new (fresh_of touched.old)
-        (on_image shape key (B.view board.old).state.reads)) root place) }
+        (on_image shape keys.now (B.view board.old).state.reads)) root place) }
     ensures text { B.honest board.old → AreOrdered shape touched.old
-        → (key : List ℕ) → AreKeysOf keys.now key
         → IfOk result (λ entry. (root : Entry) (place : ℕ) → place < PLACES
         → shape.level place ≡ DEPTH
-        → text_of shape (on_image shape key (B.view board.new).state.reads) entry place
+        → text_of shape (on_image shape keys.now (B.view board.new).state.reads) entry place
         ≡ text_of shape (with_new (fresh_of touched.old)
-        (on_image shape key (B.view board.old).state.reads)) root place) }
+        (on_image shape keys.now (B.view board.old).state.reads)) root place) }
 {
     while let Some(node) = touched.pop() {
         let entry = write_node(board, keys, &node, sequence)?;

@@ -5,7 +5,6 @@ ghost use Rattle.tee_base.specs.declared.limits.TheConstants.{MAX_HOSTS};
 ghost use Rattle.store_api.specs.Volumes.{IfMismatch, ShowsLeaf};
 ghost use Rattle.store_api.specs.declared.leaves.LeafAnswer.TheVariants as answers;
 ghost use Rattle.board.specs.Steps.{CallRun};
-ghost use Rattle.seal.specs.Keys.{AreKeysOf};
 ghost use Rattle.epoch.specs.Reading.{OnlyReads, no_fault};
 ghost use Rattle.tree_paths.specs.Kept.{AreKept, ArePassed, IsFoundUnder};
 ghost use Rattle.tree_paths.specs.Identify.{ImagesIdentify};
@@ -43,16 +42,13 @@ pub fn load<B: Board, L: Layout>(
     ensures cause { result ≡ Err answers.Failed
         → Rose (B.view board.old).state.faults (B.view board.new).state.faults }
     ensures answer { (result ≢ Err answers.Lost) × (result ≢ Err answers.NoMemory) }
-    ensures tags { (key : List ℕ) → AreKeysOf keys.now key
-        → IfMismatch result (λ tags. tags.found ≢ tags.kept) }
+    ensures tags { IfMismatch result (λ tags. tags.found ≢ tags.kept) }
     ensures same { IsTrue B.tells_reads
         → (B.view board.new).state.reads ≡ (B.view board.old).state.reads }
-    ensures text { IsTrue B.tells_reads → (key : List ℕ) → AreKeysOf keys.now key
-        → OnOk result (into.new
-        ≡ (on_image L.shape key (B.view board.old).state.reads place entry.now).text) }
-    ensures damage { IsTrue B.tells_reads → (key : List ℕ) → AreKeysOf keys.now key
-        → ShowsLeaf result
-        (damage_at (on_image L.shape key (B.view board.old).state.reads) place entry.now) }
+    ensures text { IsTrue B.tells_reads → OnOk result (into.new
+        ≡ (on_image L.shape keys.now (B.view board.old).state.reads place entry.now).text) }
+    ensures damage { IsTrue B.tells_reads → ShowsLeaf result
+        (damage_at (on_image L.shape keys.now (B.view board.old).state.reads) place entry.now) }
     ensures honest { B.honest board.old
         → B.honest board.new × OnlyReads (B.view board.old) (B.view board.new) }
 {
@@ -79,14 +75,13 @@ fn opened<L: Layout>(
     ensures answer { (result ≢ Err answers.Lost) × (result ≢ Err answers.NoMemory) }
     ensures failed { result ≢ Err answers.Failed }
     ensures made { no_fault result ≡ true }
-    ensures tags { (key : List ℕ) → AreKeysOf keys.now key
-        → IfMismatch result (λ tags. tags.found ≢ tags.kept) }
-    ensures text { (key : List ℕ) (image : ℕ → List ℕ) → AreKeysOf keys.now key
+    ensures tags { IfMismatch result (λ tags. tags.found ≢ tags.kept) }
+    ensures text { (image : ℕ → List ℕ)
         → cipher.now ≡ image (block_of_copy L.shape place entry.now.copy)
-        → OnOk result (into.new ≡ (on_image L.shape key image place entry.now).text) }
-    ensures damage { (key : List ℕ) (image : ℕ → List ℕ) → AreKeysOf keys.now key
+        → OnOk result (into.new ≡ (on_image L.shape keys.now image place entry.now).text) }
+    ensures damage { (image : ℕ → List ℕ)
         → cipher.now ≡ image (block_of_copy L.shape place entry.now.copy)
-        → ShowsLeaf result (damage_at (on_image L.shape key image) place entry.now) }
+        → ShowsLeaf result (damage_at (on_image L.shape keys.now image) place entry.now) }
 {
     let tags = Tags {
         iv: entry.iv,
@@ -118,16 +113,15 @@ pub fn load_node<B: Board>(
     ensures cause { result ≡ Err answers.Failed
         → Rose (B.view board.old).state.faults (B.view board.new).state.faults }
     ensures answer { (result ≢ Err answers.Lost) × (result ≢ Err answers.NoMemory) }
-    ensures tags { (key : List ℕ) → AreKeysOf keys.now key
-        → IfMismatch result (λ tags. tags.found ≢ tags.kept) }
+    ensures tags { IfMismatch result (λ tags. tags.found ≢ tags.kept) }
     ensures same { IsTrue B.tells_reads
         → (B.view board.new).state.reads ≡ (B.view board.old).state.reads }
-    ensures text { IsTrue B.tells_reads → (key : List ℕ) → AreKeysOf keys.now key
-        → let look = on_image shape key (B.view board.old).state.reads in
+    ensures text { IsTrue B.tells_reads
+        → let look = on_image shape keys.now (B.view board.old).state.reads in
         IsFoundUnder kept.now look place entry.now
         → OnOk result (into.new ≡ (look place entry.now).text) }
-    ensures damage { IsTrue B.tells_reads → (key : List ℕ) → AreKeysOf keys.now key
-        → let look = on_image shape key (B.view board.old).state.reads in
+    ensures damage { IsTrue B.tells_reads
+        → let look = on_image shape keys.now (B.view board.old).state.reads in
         IsFoundUnder kept.now look place entry.now
         → ShowsLeaf result (damage_at look place entry.now) }
     ensures honest { B.honest board.old
@@ -166,21 +160,20 @@ pub fn find_entry<B: Board>(
     ensures cause { result ≡ Err answers.Failed
         → Rose (B.view board.old).state.faults (B.view board.new).state.faults }
     ensures answer { (result ≢ Err answers.Lost) × (result ≢ Err answers.NoMemory) }
-    ensures tags { (key : List ℕ) → AreKeysOf keys.now key
-        → IfMismatch result (λ tags. tags.found ≢ tags.kept) }
+    ensures tags { IfMismatch result (λ tags. tags.found ≢ tags.kept) }
     ensures same { IsTrue B.tells_reads
         → (B.view board.new).state.reads ≡ (B.view board.old).state.reads }
-    ensures entry { IsTrue B.tells_reads → (key : List ℕ) → AreKeysOf keys.now key
-        → let look = on_image shape key (B.view board.old).state.reads in
+    ensures entry { IsTrue B.tells_reads
+        → let look = on_image shape keys.now (B.view board.old).state.reads in
         AreKept shape look root.now kept.now
         → IfOk result (λ entry. entry ≡ entry_below shape look root.now level place) }
-    ensures damage { IsTrue B.tells_reads → (key : List ℕ) → AreKeysOf keys.now key
-        → let look = on_image shape key (B.view board.old).state.reads in
+    ensures damage { IsTrue B.tells_reads
+        → let look = on_image shape keys.now (B.view board.old).state.reads in
         AreKept shape look root.now kept.now
         → ShowsLeaf result (damage_above shape look root.now level place) }
     // each node that is noted is what reads give
-    ensures noted { IsTrue B.tells_reads → (key : List ℕ) → AreKeysOf keys.now key
-        → let look = on_image shape key (B.view board.old).state.reads in
+    ensures noted { IsTrue B.tells_reads
+        → let look = on_image shape keys.now (B.view board.old).state.reads in
         AreKept shape look root.now kept.now
         → ArePassed shape look root.now way.old → ArePassed shape look root.now way.new }
     ensures honest { B.honest board.old
@@ -220,28 +213,28 @@ pub fn find_leaf<B: Board>(
     ensures cause { result ≡ Err answers.Failed
         → Rose (B.view board.old).state.faults (B.view board.new).state.faults }
     ensures answer { (result ≢ Err answers.Lost) × (result ≢ Err answers.NoMemory) }
-    ensures tags { (key : List ℕ) → AreKeysOf keys.now key
-        → IfMismatch result (λ tags. tags.found ≢ tags.kept) }
+    ensures tags { IfMismatch result (λ tags. tags.found ≢ tags.kept) }
     ensures same { IsTrue B.tells_reads
         → (B.view board.new).state.reads ≡ (B.view board.old).state.reads }
-    ensures text { IsTrue B.tells_reads → (key : List ℕ) → AreKeysOf keys.now key
-        → let look = on_image shape key (B.view board.old).state.reads in
+    ensures text { IsTrue B.tells_reads
+        → let look = on_image shape keys.now (B.view board.old).state.reads in
         AreKept shape look root.now nodes.old.kept
         → OnOk result (into.new ≡ text_of shape look root.now (shape.leaf_place region leaf)) }
-    ensures damage { IsTrue B.tells_reads → (key : List ℕ) → AreKeysOf keys.now key
-        → let look = on_image shape key (B.view board.old).state.reads in
+    ensures damage { IsTrue B.tells_reads
+        → let look = on_image shape keys.now (B.view board.old).state.reads in
         AreKept shape look root.now nodes.old.kept
         → ShowsLeaf result (damage_of shape look root.now (shape.leaf_place region leaf)) }
     // equal tags from equal messages: it is the leaf of each image without damage on the way
-    ensures kept { IsTrue B.tells_reads → (key : List ℕ) → AreKeysOf keys.now key
-        → AreKept shape (on_image shape key (B.view board.old).state.reads) root.now nodes.old.kept
+    ensures kept { IsTrue B.tells_reads
+        → AreKept shape (on_image shape keys.now (B.view board.old).state.reads) root.now
+        nodes.old.kept
         → (image : ℕ → List ℕ) → let place = shape.leaf_place region leaf in
-        damage_of shape (on_image shape key image) root.now place ≡ None
-        → ImagesIdentify shape key (B.view board.old).state.reads image root.now place
-        → OnOk result (into.new ≡ text_of shape (on_image shape key image) root.now place) }
+        damage_of shape (on_image shape keys.now image) root.now place ≡ None
+        → ImagesIdentify shape keys.now (B.view board.old).state.reads image root.now place
+        → OnOk result (into.new ≡ text_of shape (on_image shape keys.now image) root.now place) }
     // what is kept stays what reads give, and only a leaf that is read adds to it
-    ensures cached { IsTrue B.tells_reads → (key : List ℕ) → AreKeysOf keys.now key
-        → let look = on_image shape key (B.view board.old).state.reads in
+    ensures cached { IsTrue B.tells_reads
+        → let look = on_image shape keys.now (B.view board.old).state.reads in
         AreKept shape look root.now nodes.old.kept
         → AreKept shape look root.now nodes.new.kept }
     ensures unread { OnErr result (nodes.new.kept ≡ nodes.old.kept) }

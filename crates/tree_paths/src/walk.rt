@@ -2,7 +2,6 @@
 ghost use Rattle.std.specs.Prelude.{◌≡◌, ◌≢◌, ◌≤◌, ◌<◌, ◌+◌, ◌*◌, ℕ, not, List, Err, IsTrue, IfOk, OnOk};
 ghost use Rattle.tee_base.specs.Faults.{Rose};
 ghost use Rattle.board.specs.Steps.{CallRun};
-ghost use Rattle.seal.specs.Keys.{AreKeysOf};
 ghost use Rattle.epoch.specs.Reading.{OnlyReads};
 ghost use Rattle.tree_paths.specs.Tree.{damage_at, on_image};
 ghost use Rattle.tree_paths.specs.Walk.{most_visits, visits};
@@ -51,11 +50,11 @@ fn load_right<B: Board, L: Layout>(
     ensures answer { result ≢ Err answers.Lost }
     ensures same { IsTrue B.tells_reads
         → (B.view board.new).state.reads ≡ (B.view board.old).state.reads }
-    ensures text { IsTrue B.tells_reads → (key : List ℕ) → AreKeysOf keys.now key
-        → let look = on_image L.shape key (B.view board.old).state.reads in
+    ensures text { IsTrue B.tells_reads
+        → let look = on_image L.shape keys.now (B.view board.old).state.reads in
         OnOk result (into.new ≡ (look place entry.now).text) }
-    ensures damage { IsTrue B.tells_reads → (key : List ℕ) → AreKeysOf keys.now key
-        → let look = on_image L.shape key (B.view board.old).state.reads in
+    ensures damage { IsTrue B.tells_reads
+        → let look = on_image L.shape keys.now (B.view board.old).state.reads in
         ShowsPlace result place (damage_at look place entry.now) }
     ensures honest { B.honest board.old
         → B.honest board.new × OnlyReads (B.view board.old) (B.view board.new) }
@@ -91,8 +90,8 @@ pub fn check<B: Board, L: Layout>(
     ensures few { IfOk result (λ count. count ≤ most_visits levels) }
     ensures same { IsTrue B.tells_reads
         → (B.view board.new).state.reads ≡ (B.view board.old).state.reads }
-    ensures walk { IsTrue B.tells_reads → (key : List ℕ) → AreKeysOf keys.now key
-        → let look = on_image L.shape key (B.view board.old).state.reads in
+    ensures walk { IsTrue B.tells_reads
+        → let look = on_image L.shape keys.now (B.view board.old).state.reads in
         AnswersWalk look (visits L.children look levels place entry.now) result }
     ensures honest { B.honest board.old
         → B.honest board.new × OnlyReads (B.view board.old) (B.view board.new) }

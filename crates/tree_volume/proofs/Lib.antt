@@ -1,4 +1,5 @@
 pub mod AnewLemmas
+pub mod KeyLemmas
 pub mod OpenLemmas
 pub mod ReopenLemmas
 pub mod TakeLemmas

@@ -13,8 +13,6 @@ use Rattle.store_api.specs.declared.leaves.LeafAnswer.{LeafAnswer}
 use Rattle.store_api.specs.declared.leaves.LeafAnswer.TheVariants as answers
 use Rattle.store_api.specs.Volumes.{Held, IfMismatch, LeftByCommit, after_commit}
 use Rattle.board.specs.Moment.{View, left_since, moment}
-use Rattle.seal.specs.Keys.{AreKeysOf}
-use Rattle.seal.specs.declared.keys.Keys.{Keys}
 use Rattle.epoch.specs.Forms.{held_of, is_leaf, is_sealed, leaves_of}
 use Rattle.epoch.specs.Reading.{OnlyReads, is_failure}
 use Rattle.epoch.specs.declared.header.TreeEntry.{TreeEntry}
@@ -175,7 +173,7 @@ module _ (key : List ℕ) (reads : ℕ → List ℕ) where
   unfolding entry_below
   true_blank = record { text = blank_text; sound = blank_sound; copies = (refl, tt) }
 
-  blank_stands : (keys : Keys) → AreKeysOf keys key → FitsTree keys (blank ∷ []) 0 [] NO_ROOT key reads
+  blank_stands : (keys : List ℕ) → keys ≡ key → FitsTree keys (blank ∷ []) 0 [] NO_ROOT key reads
   blank_stands keys keyed = record {
     keyed = keyed;
     ordered = (refl, refl);
@@ -183,7 +181,7 @@ module _ (key : List ℕ) (reads : ℕ → List ℕ) where
     stands = true_blank;
   }
 
-pub blank_fits : (keys : Keys) (nodes : List Node) (key : List ℕ) (reads : ℕ → List ℕ) → AreKeysOf keys key → IsBlankNode nodes → FitsTree keys nodes 0 [] NO_ROOT key reads
+pub blank_fits : (keys : List ℕ) (nodes : List Node) (key : List ℕ) (reads : ℕ → List ℕ) → keys ≡ key → IsBlankNode nodes → FitsTree keys nodes 0 [] NO_ROOT key reads
 blank_fits keys nodes key reads keyed is = subst (λ (l : List Node). FitsTree keys l 0 [] NO_ROOT key reads) (sym is) (blank_stands key reads keys keyed)
 
 -- where a verification is Ok the root seals the leaves

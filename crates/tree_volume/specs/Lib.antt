@@ -1,6 +1,5 @@
 pub mod Keepers
 pub mod Keeping
-pub mod Keyed
 pub mod Made
 pub mod Opens
 pub mod Soundness

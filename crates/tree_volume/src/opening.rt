@@ -17,7 +17,6 @@ ghost use Rattle.epoch.specs.Opening.{no_failure};
 ghost use Rattle.epoch.specs.Past.{KeepsPast};
 ghost use Rattle.epoch.specs.declared.answer.OpenAnswer.TheVariants as refusals;
 ghost use Rattle.node_cache.specs.Kept.{HoldsNothing};
-ghost use Rattle.seal.specs.Keys.{AreKeysOf};
 ghost use Rattle.tree_paths.specs.declared.places.TheConstants.{FIRST_BLOCK};
 ghost use Rattle.tree_paths.specs.Form.{form_root};
 ghost use Rattle.v1_volume.specs.Versions.{volume_form};
@@ -40,7 +39,7 @@ use v1_volume::{OldAnswer, VERSIONS, migrate};
 
 /// Opens a board; one that is blank is formatted, and a volume of version 1 is taken over.
 fn open_board<B: Board>(alloc: Global, board: &mut B, keys: &Keys) -> Result<Opened, OpenAnswer>
-    requires keyed { AreKeysOf keys.now (B.view board.old).key }
+    requires keyed { keys.now ≡ (B.view board.old).key }
     ensures calls { CallRun (no_failure result) (B.view board.old) (B.view board.new) }
     ensures cause { result ≡ Err refusals.Failed
         → Rose (B.view board.old).state.faults (B.view board.new).state.faults }
@@ -87,7 +86,7 @@ fn take_up<B: Board>(
     found: Option<Header>,
 ) -> Result<Opened, OpenAnswer>
     requires size { TREE_BLOCKS ≤ (B.view board.old).size }
-    requires keyed { AreKeysOf keys.now (B.view board.old).key }
+    requires keyed { keys.now ≡ (B.view board.old).key }
     requires accepted { IsAccepted VERSIONS found }
     ensures takes { Takes found result (B.view board.old) (B.view board.new) }
     ensures told { IsTrue B.tells_reads → TakesByForm found result
@@ -114,7 +113,7 @@ fn take_again<B: Board>(
     found: Option<Header>,
 ) -> Result<Opened, OpenAnswer>
     requires size { TREE_BLOCKS ≤ (B.view board.old).size }
-    requires keyed { AreKeysOf keys.now (B.view board.old).key }
+    requires keyed { keys.now ≡ (B.view board.old).key }
     requires accepted { IsAccepted VERSIONS found }
     ensures takes { Takes found result (B.view board.old) (B.view board.new) }
     ensures told { IsTrue B.tells_reads → TakesByForm found result
@@ -149,7 +148,7 @@ fn take_header<B: Board>(
     header: Header,
 ) -> Result<Opened, OpenAnswer>
     requires size { TREE_BLOCKS ≤ (B.view board.old).size }
-    requires keyed { AreKeysOf keys.now (B.view board.old).key }
+    requires keyed { keys.now ≡ (B.view board.old).key }
     requires accepted { accepts VERSIONS header.version ≡ true }
     ensures takes { Takes (Some header) result (B.view board.old) (B.view board.new) }
     ensures told { IsTrue B.tells_reads → TakesByForm (Some header) result
@@ -192,7 +191,7 @@ fn refusal_from(why: OldAnswer) -> OpenAnswer
 /// Formats a blank board: a commit of no leaf to the sequence 1.
 fn format_board<B: Board>(alloc: Global, board: &mut B, keys: &Keys) -> Result<Opened, OpenAnswer>
     requires size { TREE_BLOCKS ≤ (B.view board.old).size }
-    requires keyed { AreKeysOf keys.now (B.view board.old).key }
+    requires keyed { keys.now ≡ (B.view board.old).key }
     ensures calls { CallRun (no_failure result) (B.view board.old) (B.view board.new) }
     ensures cause { result ≡ Err refusals.Failed
         → Rose (B.view board.old).state.faults (B.view board.new).state.faults }

@@ -17,9 +17,7 @@ ghost use Rattle.epoch.specs.Past.{KeepsPast};
 ghost use Rattle.epoch.specs.Reading.{no_fault};
 ghost use Rattle.epoch.specs.declared.answer.OpenAnswer.TheVariants.{Rollback};
 ghost use Rattle.epoch.proofs.LeftLemmas.{left_in_use, rests_in_use, since_earlier};
-ghost use Rattle.seal.specs.Keys.{AreKeysOf};
 ghost use Rattle.tree_paths.specs.declared.places.TheConstants.{FIRST_BLOCK, REGION_LEAVES, TREE_BLOCKS};
-ghost use Rattle.tree_volume.specs.Keyed.{AreKeysOf-prop};
 ghost use Rattle.tree_paths.specs.Form.{form_root};
 ghost use Rattle.v1_volume.specs.Versions.{volume_form};
 ghost use Rattle.v1_volume.specs.Frame.{volume_framed};
@@ -55,7 +53,7 @@ pub struct TreeVolume<B: Board> {
     pub(crate) lost: bool,
     pub(crate) alloc: Global,
     ghost large: { TREE_BLOCKS ≤ (B.view board).size },
-    ghost keyed: { AreKeysOf keys (B.view board).key } by { AreKeysOf-prop keys (B.view board).key },
+    ghost keyed: { keys ≡ (B.view board).key },
     ghost cached: { IsTrue B.tells_reads → AreKept shape
         (on_image shape (B.view board).key (B.view board).state.reads) root nodes.kept } by { Prim.hlevel props },
 }
@@ -82,7 +80,7 @@ fn replace<B: Board>(
     leaves: &Leaves,
 ) -> Result<Opened, LeafAnswer>
     requires size { TREE_BLOCKS ≤ (B.view board.old).size }
-    requires keyed { AreKeysOf keys.now (B.view board.old).key }
+    requires keyed { keys.now ≡ (B.view board.old).key }
     requires cached { IsTrue B.tells_reads → AreKept shape
         (on_image shape (B.view board.old).key (B.view board.old).state.reads) opened.root
         nodes.old.kept }

@@ -8,8 +8,6 @@ use Rattle.store_api.specs.declared.leaves.LeafAnswer.{LeafAnswer}
 use Rattle.store_api.specs.declared.leaves.LeafAnswer.TheVariants as leaf_answers
 use Rattle.board.specs.Moment.{View, left_since, moment}
 use Rattle.board.specs.Steps.{CallRun, SameBlocks}
-use Rattle.seal.specs.Keys.{AreKeysOf}
-use Rattle.seal.specs.declared.keys.Keys.{Keys}
 use Rattle.epoch.specs.Commits.{BeforeOrAfter, IsMounted}
 use Rattle.epoch.specs.Forms.{held_of}
 use Rattle.epoch.specs.Keeping.{Exhausts, IsInUse, held_now}
@@ -31,10 +29,10 @@ use Rattle.v1_volume.specs.Migrating.{AnswersOld, FitsOld, Migrates, taken_over}
 use Rattle.v1_volume.specs.Planting.{ArePlanted}
 
 -- what was gathered of a reading fits the board as it is then
-pub fits_read : (old mid : View) (keys : Keys) (nodes : List Node) (entry : TreeEntry) → mid.key ≡ old.key → mid.state.reads ≡ old.state.reads → AreKeysOf keys old.key
+pub fits_read : (old mid : View) (keys : List ℕ) (nodes : List Node) (entry : TreeEntry) → mid.key ≡ old.key → mid.state.reads ≡ old.state.reads → keys ≡ old.key
     → AreOrdered shape nodes → ArePlanted nodes (old_leaves (on_image first_shape old.key old.state.reads) entry) → FitsOld keys nodes (old_root entry) mid.key mid.state.reads
 fits_read old mid keys nodes entry key reads keyed ordered planted = record {
-  keyed = subst (λ (k : List ℕ). AreKeysOf keys k) (sym key) keyed;
+  keyed = keyed ∙ sym key;
   old = refl;
   ordered = ordered;
   planted = subst (λ (k : List ℕ). ArePlanted nodes (old_leaves (on_image first_shape k mid.state.reads) entry)) (sym key)

@@ -4,7 +4,6 @@ use Rattle.std.proofs.Common.{true, false, List, [], ◌∷◌, Option, None, So
 use Rattle.std.proofs.lemmas.Bool.Decides.{nat_tests}
 use Rattle.tee_base.specs.Words.{Image, Key}
 use Rattle.tee_base.specs.declared.limits.TheConstants.{MAX_HOSTS}
-use Rattle.seal.specs.declared.keys.Keys.{Keys}
 use Rattle.epoch.specs.Commits.{IsWritten, spare}
 use Rattle.epoch.specs.Forms.{Root, all_below, is_leaf, is_sealed, leaves_of, root_written}
 use Rattle.epoch.specs.Gates.{header_at}
@@ -98,11 +97,20 @@ nodes_spare key reads root slot old (node ∷ nodes) = (
 abbrev pub no_entry : TreeEntry
 no_entry = record { copy = 0; sequence = 0; iv = []; tag = [] }
 
-module _ (key : Key) (old new : Image) (keys : Keys) (nodes : List Node) (root : Root) (e : TreeEntry) (fits : FitsOld keys nodes root key old)
-    (damage : (place : ℕ) → place < 17489
-    → damage_of shape (on_image shape key new) e place ≡ damage_of shape (with_new (fresh_of nodes) (on_image shape key old)) no_entry place)
-    (text : (place : ℕ) → place < 17489 → shape.level place ≡ 4
-    → text_of shape (on_image shape key new) e place ≡ text_of shape (with_new (fresh_of nodes) (on_image shape key old)) no_entry place) where
+module _ (key : Key) (old new : Image) (keys : List ℕ) (nodes : List Node) (root : Root) (e : TreeEntry) (fits : FitsOld keys nodes root key old)
+    (damage_by : (place : ℕ) → place < 17489
+    → damage_of shape (on_image shape keys new) e place ≡ damage_of shape (with_new (fresh_of nodes) (on_image shape keys old)) no_entry place)
+    (text_by : (place : ℕ) → place < 17489 → shape.level place ≡ 4
+    → text_of shape (on_image shape keys new) e place ≡ text_of shape (with_new (fresh_of nodes) (on_image shape keys old)) no_entry place) where
+  damage : (place : ℕ) → place < 17489 → damage_of shape (on_image shape key new) e place ≡ damage_of shape (with_new (fresh_of nodes) (on_image shape key old)) no_entry place
+  damage = subst (λ (k : List ℕ). (place : ℕ) → place < 17489 → damage_of shape (on_image shape k new) e place
+      ≡ damage_of shape (with_new (fresh_of nodes) (on_image shape k old)) no_entry place) fits.keyed damage_by
+
+  text : (place : ℕ) → place < 17489 → shape.level place ≡ 4
+      → text_of shape (on_image shape key new) e place ≡ text_of shape (with_new (fresh_of nodes) (on_image shape key old)) no_entry place
+  text = subst (λ (k : List ℕ). (place : ℕ) → place < 17489 → shape.level place ≡ 4 → text_of shape (on_image shape k new) e place
+      ≡ text_of shape (with_new (fresh_of nodes) (on_image shape k old)) no_entry place) fits.keyed text_by
+
   place_in : (r l : ℕ) → r < MAX_HOSTS → l < 1024 → shape.leaf_place r l < 17489
   place_in r l hr hl = is_shape.leaf_inside r l hr hl
 

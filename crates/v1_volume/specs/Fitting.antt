@@ -1,6 +1,5 @@
 -- What a migration gathered fits every image that has the blocks of the ways.
 use Rattle.std.proofs.Common.{◌≡◌, ◌∙◌, ℕ, true, List, sym, ap, subst}
-use Rattle.seal.specs.declared.keys.Keys.{Keys}
 use Rattle.tee_base.specs.Words.{Image, Key}
 use Rattle.epoch.specs.Forms.{Root, SameUsed}
 use Rattle.v1_volume.specs.Renumbering.{converted_leaf}
@@ -11,7 +10,7 @@ use Rattle.v1_volume.specs.Versions.{old_uses, volume_form}
 use Rattle.v1_volume.specs.Frame.{leaves_same}
 use Rattle.v1_volume.specs.Migrating.{FitsOld}
 
-pub still_fits_old : (keys : Keys) (nodes : List Node) (root : Root) (key : Key) (base image : Image) → SameUsed volume_form key root base image
+pub still_fits_old : (keys : List ℕ) (nodes : List Node) (root : Root) (key : Key) (base image : Image) → SameUsed volume_form key root base image
     → FitsOld keys nodes root key base → FitsOld keys nodes root key image
 still_fits_old keys nodes root key base image same fits =
     let used : (k : ℕ) → old_uses (on_image first_shape key base) root.entry k ≡ true → image k ≡ base k

@@ -4,8 +4,6 @@ use Rattle.tee_base.specs.Crash.{LeavesOnly}
 use Rattle.tee_base.specs.Words.{Key}
 use Rattle.store_api.specs.Volumes.{Held}
 use Rattle.board.specs.Moment.{View, left_since, moment}
-use Rattle.seal.specs.Keys.{AreKeysOf}
-use Rattle.seal.specs.declared.keys.Keys.{Keys}
 use Rattle.epoch.specs.Commits.{IsMounted, next_held}
 use Rattle.epoch.specs.Forms.{Root, held_of, root_written}
 use Rattle.epoch.specs.declared.header.TreeEntry.{TreeEntry}
@@ -21,8 +19,8 @@ use Rattle.v1_volume.specs.declared.answer.OldAnswer.TheVariants as answers
 use Rattle.v1_volume.specs.Planting.{ArePlanted}
 
 -- the keys are those of the board's key, the root is of the first version, and the nodes have the leaves that its regions become
-pub record FitsOld (keys : Keys) (nodes : List Node) (root : Root) (key : Key) (reads : ℕ → List ℕ) : Type 0 where
-  pub keyed : AreKeysOf keys key
+pub record FitsOld (keys : List ℕ) (nodes : List Node) (root : Root) (key : Key) (reads : ℕ → List ℕ) : Type 0 where
+  pub keyed : keys ≡ key
   pub old : root ≡ old_root root.entry
   pub ordered : AreOrdered shape nodes
   pub planted : ArePlanted nodes (old_leaves (on_image first_shape key reads) root.entry)

@@ -1,6 +1,5 @@
 //! What the commit of a migration writes.
 ghost use Rattle.std.specs.Prelude.{◌≡◌, ◌<◌, length};
-ghost use Rattle.seal.specs.Keys.{AreKeysOf};
 ghost use Rattle.tree_commits.specs.Gather.{AreGathered, AreGathered-prop};
 ghost use Rattle.tree_commits.specs.Sealed.{AreSealed};
 ghost use Rattle.tree_commits.specs.Touched.{AreOrdered};
@@ -40,7 +39,7 @@ impl Change for Migration<'_> {
 
     ghost keeps = { λ c key reads. Unit {0} };
 
-    ghost checks = { λ c key. AreKeysOf c.keys.now key };
+    ghost checks = { λ c key. c.keys.now ≡ key };
 
     ghost seals = { λ old new key sequence. AreOrdered shape old.touched → AreSealed shape DEPTH key sequence old.touched new.root };
 

@@ -5,7 +5,6 @@ ghost use Rattle.tee_base.specs.declared.limits.TheConstants.{MAX_HOSTS};
 ghost use Rattle.store_api.specs.Volumes.{ShowsLeaf};
 ghost use Rattle.store_api.specs.declared.leaves.LeafAnswer.TheVariants as answers;
 ghost use Rattle.board.specs.Steps.{CallRun};
-ghost use Rattle.seal.specs.Keys.{AreKeysOf};
 ghost use Rattle.epoch.specs.Reading.{OnlyReads, no_fault};
 ghost use Rattle.tree_paths.specs.Shape.{first_shape};
 ghost use Rattle.epoch.specs.declared.header.TreeEntry.{TreeEntry as Entry};
@@ -43,11 +42,11 @@ fn find_entry<B: Board>(
     ensures answer { (result ≢ Err answers.Lost) × (result ≢ Err answers.NoMemory) }
     ensures same { IsTrue B.tells_reads
         → (B.view board.new).state.reads ≡ (B.view board.old).state.reads }
-    ensures entry { IsTrue B.tells_reads → (key : List ℕ) → AreKeysOf keys.now key
-        → let look = on_image first_shape key (B.view board.old).state.reads in
+    ensures entry { IsTrue B.tells_reads
+        → let look = on_image first_shape keys.now (B.view board.old).state.reads in
         IfOk result (λ entry. entry ≡ entry_below first_shape look root.now level place) }
-    ensures damage { IsTrue B.tells_reads → (key : List ℕ) → AreKeysOf keys.now key
-        → let look = on_image first_shape key (B.view board.old).state.reads in
+    ensures damage { IsTrue B.tells_reads
+        → let look = on_image first_shape keys.now (B.view board.old).state.reads in
         ShowsLeaf result (damage_above first_shape look root.now level place) }
     ensures honest { B.honest board.old
         → B.honest board.new × OnlyReads (B.view board.old) (B.view board.new) }
@@ -86,11 +85,11 @@ pub(crate) fn find_group<B: Board>(
     ensures answer { (result ≢ Err answers.Lost) × (result ≢ Err answers.NoMemory) }
     ensures same { IsTrue B.tells_reads
         → (B.view board.new).state.reads ≡ (B.view board.old).state.reads }
-    ensures text { IsTrue B.tells_reads → (key : List ℕ) → AreKeysOf keys.now key
-        → let look = on_image first_shape key (B.view board.old).state.reads in
+    ensures text { IsTrue B.tells_reads
+        → let look = on_image first_shape keys.now (B.view board.old).state.reads in
         OnOk result (into.new ≡ text_of first_shape look root.now (group_of region group)) }
-    ensures damage { IsTrue B.tells_reads → (key : List ℕ) → AreKeysOf keys.now key
-        → let look = on_image first_shape key (B.view board.old).state.reads in
+    ensures damage { IsTrue B.tells_reads
+        → let look = on_image first_shape keys.now (B.view board.old).state.reads in
         ShowsLeaf result (damage_of first_shape look root.now (group_of region group)) }
     ensures honest { B.honest board.old
         → B.honest board.new × OnlyReads (B.view board.old) (B.view board.new) }
@@ -123,13 +122,13 @@ pub(crate) fn load_leaf<B: Board>(
     ensures same { IsTrue B.tells_reads
         → (B.view board.new).state.reads ≡ (B.view board.old).state.reads }
     // where the node is what stands above the leaf
-    ensures text { IsTrue B.tells_reads → (key : List ℕ) → AreKeysOf keys.now key
-        → (root : Entry) → let look = on_image first_shape key (B.view board.old).state.reads in
+    ensures text { IsTrue B.tells_reads → (root : Entry)
+        → let look = on_image first_shape keys.now (B.view board.old).state.reads in
         node.now ≡ text_of first_shape look root (group_of region (leaf / FAN))
         → OnOk result (into.new
         ≡ text_of first_shape look root (first_shape.leaf_place region leaf)) }
-    ensures damage { IsTrue B.tells_reads → (key : List ℕ) → AreKeysOf keys.now key
-        → (root : Entry) → let look = on_image first_shape key (B.view board.old).state.reads in
+    ensures damage { IsTrue B.tells_reads → (root : Entry)
+        → let look = on_image first_shape keys.now (B.view board.old).state.reads in
         node.now ≡ text_of first_shape look root (group_of region (leaf / FAN))
         → damage_of first_shape look root (group_of region (leaf / FAN)) ≡ None
         → ShowsLeaf result (damage_of first_shape look root (first_shape.leaf_place region leaf)) }

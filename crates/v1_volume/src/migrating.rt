@@ -3,7 +3,6 @@ ghost use Rattle.std.specs.Prelude.{◌≡◌, ◌≢◌, ◌≤◌, ◌<◌, �
 ghost use Rattle.tee_base.specs.Faults.{Rose};
 ghost use Rattle.store_api.specs.Volumes.{Held};
 ghost use Rattle.board.specs.Steps.{CallRun, SameBlocks, Unchanged};
-ghost use Rattle.seal.specs.Keys.{AreKeysOf};
 ghost use Rattle.epoch.specs.Alone.{LeavesAlone};
 ghost use Rattle.epoch.specs.Commits.{IsMounted};
 ghost use Rattle.epoch.specs.Finding.{IsSettledAt};
@@ -49,13 +48,13 @@ fn read_leaves<B: Board>(
     ensures same { IsTrue B.tells_reads
         → (B.view board.new).state.reads ≡ (B.view board.old).state.reads }
     ensures ordered { IfOk result (λ nodes. AreOrdered shape nodes) }
-    ensures planted { IsTrue B.tells_reads → (key : List ℕ) → AreKeysOf keys.now key
-        → let look = on_image first_shape key (B.view board.old).state.reads in
+    ensures planted { IsTrue B.tells_reads
+        → let look = on_image first_shape keys.now (B.view board.old).state.reads in
         IfOk result (λ nodes. ArePlanted nodes (old_leaves look root.now)) }
-    ensures answer { IsTrue B.tells_reads → (key : List ℕ) → AreKeysOf keys.now key
-        → AnswersOld (on_image first_shape key (B.view board.old).state.reads) root.now result }
-    ensures sound { IsTrue B.tells_reads → (key : List ℕ) → AreKeysOf keys.now key
-        → is_sealed volume_form key (B.view board.old).state.reads (old_root root.now) ≡ true
+    ensures answer { IsTrue B.tells_reads
+        → AnswersOld (on_image first_shape keys.now (B.view board.old).state.reads) root.now result }
+    ensures sound { IsTrue B.tells_reads
+        → is_sealed volume_form keys.now (B.view board.old).state.reads (old_root root.now) ≡ true
         → IfErr result (λ why. (why ≡ answers.Failed) ⊎ (why ≡ answers.NoMemory)) }
     ensures honest { B.honest board.old
         → B.honest board.new × OnlyReads (B.view board.old) (B.view board.new) }
@@ -81,7 +80,7 @@ pub fn migrate<B: Board>(
     sequence: u64,
 ) -> Result<TreeEntry, OldAnswer>
     requires size { TREE_BLOCKS ≤ (B.view board.old).size }
-    requires keyed { AreKeysOf keys.now (B.view board.old).key }
+    requires keyed { keys.now ≡ (B.view board.old).key }
     ensures calls { CallRun (no_fault result) (B.view board.old) (B.view board.new) }
     ensures cause { result ≡ Err answers.Failed
         → Rose (B.view board.old).state.faults (B.view board.new).state.faults }
@@ -96,8 +95,8 @@ pub fn migrate<B: Board>(
     ensures still { B.honest board.old → IfErr result (λ why. is_of_image why ≡ true
         → Unchanged (B.view board.old).state (B.view board.new).state) }
     // the first two tags that differ on the walk over all places; else the first region that breaks a rule
-    ensures answer { IsTrue B.tells_reads → (key : List ℕ) → AreKeysOf keys.now key
-        → AnswersOld (on_image first_shape key (B.view board.old).state.reads) root.now result }
+    ensures answer { IsTrue B.tells_reads
+        → AnswersOld (on_image first_shape keys.now (B.view board.old).state.reads) root.now result }
     ensures sealed_for { IfOk result (λ entry. entry.sequence ≡ sequence + 1) }
     ensures counter { B.honest board.old → IsSettledAt sequence (B.view board.old).state
         → IfOk result (λ entry. IsSettledAt (sequence + 1) (B.view board.new).state) }

@@ -5,7 +5,6 @@ ghost use Rattle.tee_base.specs.declared.limits.TheConstants.{MAX_HOSTS as REGIO
 ghost use Rattle.store_api.specs.Volumes.{IfMismatch as IfLeafMismatch};
 ghost use Rattle.store_api.specs.declared.leaves.LeafAnswer.TheVariants as leaf_answers;
 ghost use Rattle.board.specs.Steps.{CallRun};
-ghost use Rattle.seal.specs.Keys.{AreKeysOf};
 ghost use Rattle.epoch.specs.Forms.{is_sealed};
 ghost use Rattle.epoch.specs.Reading.{OnlyReads, no_fault as no_leaf_fault};
 ghost use Rattle.v1_volume.specs.Checking.{leaf_in};
@@ -41,8 +40,8 @@ fn verify<B: Board>(board: &mut B, keys: &Keys, root: &TreeEntry) -> Result<(), 
         → Rose (B.view board.old).state.faults (B.view board.new).state.faults }
     ensures same { IsTrue B.tells_reads
         → (B.view board.new).state.reads ≡ (B.view board.old).state.reads }
-    ensures walk { IsTrue B.tells_reads → (key : List ℕ) → AreKeysOf keys.now key
-        → let look = on_image first_shape key (B.view board.old).state.reads in
+    ensures walk { IsTrue B.tells_reads
+        → let look = on_image first_shape keys.now (B.view board.old).state.reads in
         AnswersWalk look (old_visits look root.now) result }
     ensures no_rules { IfErr result (λ why. (r l : ℕ) → why ≢ answers.Garbled r l) }
     ensures honest { B.honest board.old
@@ -76,12 +75,12 @@ fn read_group<B: Board>(
     ensures same { IsTrue B.tells_reads
         → (B.view board.new).state.reads ≡ (B.view board.old).state.reads }
     ensures whole { OnOk result (length leaves.new.items ≡ FAN * (group + 1)) }
-    ensures read { IsTrue B.tells_reads → (key : List ℕ) → AreKeysOf keys.now key
-        → let look = on_image first_shape key (B.view board.old).state.reads in
+    ensures read { IsTrue B.tells_reads
+        → let look = on_image first_shape keys.now (B.view board.old).state.reads in
         AreRead look root.now region (FAN * group) leaves.old.items
         → OnOk result (AreRead look root.now region (FAN * (group + 1)) leaves.new.items) }
-    ensures damage { IsTrue B.tells_reads → (key : List ℕ) → AreKeysOf keys.now key
-        → let look = on_image first_shape key (B.view board.old).state.reads in
+    ensures damage { IsTrue B.tells_reads
+        → let look = on_image first_shape keys.now (B.view board.old).state.reads in
         IfLeafMismatch result (λ tags. (leaf : ℕ) × (leaf < REGION_LEAVES)
         × (old_damage look root.now region leaf ≡ Some tags)) }
     ensures honest { B.honest board.old
@@ -118,11 +117,11 @@ fn read_region<B: Board>(
     ensures same { IsTrue B.tells_reads
         → (B.view board.new).state.reads ≡ (B.view board.old).state.reads }
     ensures whole { IfOk result (λ leaves. length leaves.items ≡ REGION_LEAVES) }
-    ensures leaves { IsTrue B.tells_reads → (key : List ℕ) → AreKeysOf keys.now key
-        → let look = on_image first_shape key (B.view board.old).state.reads in
+    ensures leaves { IsTrue B.tells_reads
+        → let look = on_image first_shape keys.now (B.view board.old).state.reads in
         IfOk result (λ leaves. leaf_in leaves.items ≡ old_leaves look root.now region) }
-    ensures damage { IsTrue B.tells_reads → (key : List ℕ) → AreKeysOf keys.now key
-        → let look = on_image first_shape key (B.view board.old).state.reads in
+    ensures damage { IsTrue B.tells_reads
+        → let look = on_image first_shape keys.now (B.view board.old).state.reads in
         IfLeafMismatch result (λ tags. (leaf : ℕ) × (leaf < REGION_LEAVES)
         × (old_damage look root.now region leaf ≡ Some tags)) }
     ensures honest { B.honest board.old
@@ -151,12 +150,12 @@ fn convert_region<B: Board>(
         → Rose (B.view board.old).state.faults (B.view board.new).state.faults }
     ensures same { IsTrue B.tells_reads
         → (B.view board.new).state.reads ≡ (B.view board.old).state.reads }
-    ensures answer { IsTrue B.tells_reads → (key : List ℕ) → AreKeysOf keys.now key
-        → let look = on_image first_shape key (B.view board.old).state.reads in
+    ensures answer { IsTrue B.tells_reads
+        → let look = on_image first_shape keys.now (B.view board.old).state.reads in
         AnswersRegion region (old_leaves look root.now region) result }
     ensures numbers { IfOk result (λ named. IsTrue (is_above_all named now.REGION_LEAVES)) }
-    ensures damage { IsTrue B.tells_reads → (key : List ℕ) → AreKeysOf keys.now key
-        → let look = on_image first_shape key (B.view board.old).state.reads in
+    ensures damage { IsTrue B.tells_reads
+        → let look = on_image first_shape keys.now (B.view board.old).state.reads in
         IfMismatch result (λ tags. (leaf : ℕ) × (leaf < REGION_LEAVES)
         × (old_damage look root.now region leaf ≡ Some tags)) }
     ensures honest { B.honest board.old
@@ -192,20 +191,20 @@ pub fn read_regions<B: Board>(
         → (B.view board.new).state.reads ≡ (B.view board.old).state.reads }
     ensures whole { IfOk result (λ regions. length regions.items ≡ REGIONS) }
     // the first two tags that differ on the walk over all places, or none
-    ensures walk { IsTrue B.tells_reads → (key : List ℕ) → AreKeysOf keys.now key
-        → let look = on_image first_shape key (B.view board.old).state.reads in
+    ensures walk { IsTrue B.tells_reads
+        → let look = on_image first_shape keys.now (B.view board.old).state.reads in
         AnswersWalk look (old_visits look root.now) result }
     // the first region that breaks a rule, or none
-    ensures rules { IsTrue B.tells_reads → (key : List ℕ) → AreKeysOf keys.now key
-        → let look = on_image first_shape key (B.view board.old).state.reads in
+    ensures rules { IsTrue B.tells_reads
+        → let look = on_image first_shape keys.now (B.view board.old).state.reads in
         AnswersRules (old_leaves look root.now) result }
-    ensures converted { IsTrue B.tells_reads → (key : List ℕ) → AreKeysOf keys.now key
-        → let look = on_image first_shape key (B.view board.old).state.reads in
+    ensures converted { IsTrue B.tells_reads
+        → let look = on_image first_shape keys.now (B.view board.old).state.reads in
         IfOk result (λ regions. AreConverted (old_leaves look root.now) regions.items) }
     ensures numbered { IfOk result (λ regions. AreNumbered regions.items) }
     // a sound image is read, unless a call failed or there was no memory
-    ensures sound { IsTrue B.tells_reads → (key : List ℕ) → AreKeysOf keys.now key
-        → is_sealed volume_form key (B.view board.old).state.reads (old_root root.now) ≡ true
+    ensures sound { IsTrue B.tells_reads
+        → is_sealed volume_form keys.now (B.view board.old).state.reads (old_root root.now) ≡ true
         → IfErr result (λ why. (why ≡ answers.Failed) ⊎ (why ≡ answers.NoMemory)) }
     ensures honest { B.honest board.old
         → B.honest board.new × OnlyReads (B.view board.old) (B.view board.new) }

@@ -3,12 +3,12 @@ use Rattle.epoch.proofs.CallLemmas.{run_as, run_failed, run_more, run_none}
 use Rattle.epoch.proofs.PastLemmas.{itself, followed}
 use Rattle.std.proofs.Common.{◌≡◌, ◌≢◌, ◌≤◌, ◌∙◌, ℕ, List, false, Some, None, Ok, Err, refl, sym, ap, subst, arith, rules}
 use Rattle.std.proofs.lemmas.Bool.{ltb-false}
-use Rattle.seal.specs.Keys.{AreKeysOf}
 use Rattle.epoch.specs.Opening.{header_answer, no_failure}
 use Rattle.epoch.specs.declared.answer.OpenAnswer.TheVariants.{Failed, NoMemory}
 use Rattle.epoch.proofs.MountLemmas.{failed_ok}
 use Rattle.epoch.proofs.OpenLemmas.{blocks_more}
 use Rattle.epoch.specs.Formats.{accepts}
+use Rattle.epoch.specs.Slots.{slot_of}
 use Rattle.epoch.proofs.RuleLemmas.{asked}
 use Rattle.epoch.proofs.FindLemmas.{accepted_answer, blank_counter, settled_answer, told_counter, find_starts, find_crash, opens_below}
 use Rattle.epoch.proofs.FindLemmas.{judged_memory, judged_opening, judged_so, ok_never, refuses_older, ruled_answer, between}
@@ -28,8 +28,8 @@ returns-in_err-seen-clause-crash g c h n rests =
 pub returns-clause-rule : goal.returns-clause-rule
 returns-clause-rule g c tells =
     let v = g.B.Board.view c.args.board.now in
-    let keys : AreKeysOf c.of-keys.result v.key = subst (λ (k : List ℕ). AreKeysOf c.of-keys.result k) c.key.ensures c.of-keys.ensures in
-    let slots = c.in_ok-seen.ensures.slots tells v.key keys in
+    let keys : c.of-keys.result ≡ v.key = c.of-keys.ensures ∙ c.key.ensures in
+    let slots = subst (λ (k : List ℕ). (c.in_ok-seen.seen.first ≡ slot_of k v.state.reads 0) × (c.in_ok-seen.seen.second ≡ slot_of k v.state.reads 1)) keys (c.in_ok-seen.ensures.slots tells) in
     let told = judged_opening (accepts c.args.format) v.key v.state.reads c.in_ok-seen.seen.first c.in_ok-seen.seen.second c.in_ok-seen.seen.counter c.judge.result slots.0 slots.1 c.judge.ensures in
     let large : c.args.format.blocks ≤ v.size = omega (arith, c.if-blocks-format.false, c.blocks-blocks.ensures) in
     let answers : c.match-judge.result ≢ Err Failed → c.match-judge.result ≡ header_answer c.judge.result
@@ -43,8 +43,8 @@ returns-clause-rule g c tells =
 pub returns-clause-exact : goal.returns-clause-exact
 returns-clause-exact g c h =
     let v = g.B.Board.view c.args.board.now in
-    let keys : AreKeysOf c.of-keys.result v.key = subst (λ (k : List ℕ). AreKeysOf c.of-keys.result k) c.key.ensures c.of-keys.ensures in
-    let slots = c.in_ok-seen.ensures.slots (g.met.B.Board.honest_reads c.args.board.now h) v.key keys in
+    let keys : c.of-keys.result ≡ v.key = c.of-keys.ensures ∙ c.key.ensures in
+    let slots = subst (λ (k : List ℕ). (c.in_ok-seen.seen.first ≡ slot_of k v.state.reads 0) × (c.in_ok-seen.seen.second ≡ slot_of k v.state.reads 1)) keys (c.in_ok-seen.ensures.slots (g.met.B.Board.honest_reads c.args.board.now h)) in
     let told = judged_opening (accepts c.args.format) v.key v.state.reads c.in_ok-seen.seen.first c.in_ok-seen.seen.second c.in_ok-seen.seen.counter c.judge.result slots.0 slots.1 c.judge.ensures in
     let large : c.args.format.blocks ≤ v.size = omega (arith, c.if-blocks-format.false, c.blocks-blocks.ensures) in
     let answers : c.match-judge.result ≢ Err Failed → c.match-judge.result ≡ header_answer c.judge.result
@@ -67,8 +67,8 @@ returns-clause-exact g c h =
 pub returns-clause-run : goal.returns-clause-run
 returns-clause-run g c h open_at base low high first opens run =
     let v = g.B.Board.view c.args.board.now in
-    let keys : AreKeysOf c.of-keys.result v.key = subst (λ (k : List ℕ). AreKeysOf c.of-keys.result k) c.key.ensures c.of-keys.ensures in
-    let slots = c.in_ok-seen.ensures.slots (g.met.B.Board.honest_reads c.args.board.now h) v.key keys in
+    let keys : c.of-keys.result ≡ v.key = c.of-keys.ensures ∙ c.key.ensures in
+    let slots = subst (λ (k : List ℕ). (c.in_ok-seen.seen.first ≡ slot_of k v.state.reads 0) × (c.in_ok-seen.seen.second ≡ slot_of k v.state.reads 1)) keys (c.in_ok-seen.ensures.slots (g.met.B.Board.honest_reads c.args.board.now h)) in
     let n = c.in_ok-seen.seen.counter in
     let told = judged_opening (accepts c.args.format) v.key v.state.reads c.in_ok-seen.seen.first c.in_ok-seen.seen.second n c.judge.result slots.0 slots.1 c.judge.ensures in
     let counted = c.in_ok-seen.ensures.counter h in

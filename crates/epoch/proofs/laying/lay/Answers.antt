@@ -25,8 +25,8 @@ returns-clause-laid g c h =
     let s = c.sync.ensures.honest w.0 in
     lay_answers (c.args.header.now.sequence % 2) c.header_block.result _ _ _ _ c.sync.result
     (IsHeaderBlock (g.B.Board.view c.args.board.now).key (c.args.header.now.sequence % 2) c.args.header.now) (c.header_block.ensures ∙ ap header_at c.slot_for-slot.ensures.slot) w.2 s.2
-    (subst (λ (k : List ℕ). IsHeaderBlock k (c.args.header.now.sequence % 2) c.args.header.now c.block_of_header.result) c.key.ensures
-    (subst (λ (s : ℕ). IsHeaderBlock c.key.result s c.args.header.now c.block_of_header.result) c.slot_for-slot.ensures.slot (c.block_of_header.ensures.block c.key.result c.of-keys.ensures)))
+    (subst (λ (k : List ℕ). IsHeaderBlock k (c.args.header.now.sequence % 2) c.args.header.now c.block_of_header.result) (c.of-keys.ensures ∙ c.key.ensures)
+    (subst (λ (s : ℕ). IsHeaderBlock c.of-keys.result s c.args.header.now c.block_of_header.result) c.slot_for-slot.ensures.slot c.block_of_header.ensures.block))
 
 pub returns-clause-run : goal.returns-clause-run
 returns-clause-run g c h open_at base low high first opened run =
@@ -59,8 +59,8 @@ returns-clause-good g c h =
     lay_holds (c.args.header.now.sequence % 2) c.header_block.result _ _ _ _ c.sync.result
     (λ (block : List ℕ). header_slot (g.B.Board.view c.args.board.now).key (c.args.header.now.sequence % 2) block ≡ Good c.args.header.now)
     (c.header_block.ensures ∙ ap header_at c.slot_for-slot.ensures.slot) w.2 s.2
-    (subst (λ (k : List ℕ). header_slot k (c.args.header.now.sequence % 2) c.block_of_header.result ≡ Good c.args.header.now) c.key.ensures
-    (subst (λ (s : ℕ). header_slot c.key.result s c.block_of_header.result ≡ Good c.args.header.now) c.slot_for-slot.ensures.slot (c.block_of_header.ensures.good c.key.result c.of-keys.ensures)))
+    (subst (λ (k : List ℕ). header_slot k (c.args.header.now.sequence % 2) c.block_of_header.result ≡ Good c.args.header.now) (c.of-keys.ensures ∙ c.key.ensures)
+    (subst (λ (s : ℕ). header_slot c.of-keys.result s c.block_of_header.result ≡ Good c.args.header.now) c.slot_for-slot.ensures.slot c.block_of_header.ensures.good))
 
 pub returns-in_err-write-clause-honest : goal.returns-in_err-write-clause-honest
 returns-in_err-write-clause-honest g c h =

@@ -5,7 +5,7 @@ use Rattle.seal.proofs.SealLemmas.{reopened}
 use Rattle.seal.proofs.leaf.open_leaf.Goals as goal
 
 pub returns-clause-sealed : goal.returns-clause-sealed
-returns-clause-sealed c key plain are seals = (refl, c.convert.ensures key are ∙ reopened key c.args.tags.now.iv plain c.args.cipher.now seals.text)
+returns-clause-sealed c plain seals = (refl, c.convert.ensures ∙ reopened c.args.keys.now c.args.tags.now.iv plain c.args.cipher.now seals.text)
 
 pub returns-then-ne-clause-mismatch : goal.returns-then-ne-clause-mismatch
 returns-then-ne-clause-mismatch c = search rules

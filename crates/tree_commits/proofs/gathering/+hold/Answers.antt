@@ -18,8 +18,8 @@ use Rattle.tree_paths.specs.Ways.{above, is_root}
 use Rattle.tree_commits.proofs.gathering.+hold.Goals as goal
 
 pub returns-then-holds-clause-damage : goal.returns-then-holds-clause-damage
-returns-then-holds-clause-damage g t c tells key keyed kept are =
-    shown_true shape (on_image shape key (g.B.Board.view c.args.board.now).state.reads) c.args.root.now 4 c.args.place c.args.touched.now are c.requires.place
+returns-then-holds-clause-damage g t c tells kept are =
+    shown_true shape (on_image shape c.args.keys.now (g.B.Board.view c.args.board.now).state.reads) c.args.root.now 4 c.args.place c.args.touched.now are c.requires.place
     (omega (arith, c.requires.level, c.requires.above)) (sym c.holds.ensures ∙ c.if-holds.true)
 
 pub returns-then-level-eq0-clause-gathered : goal.returns-then-level-eq0-clause-gathered
@@ -30,28 +30,28 @@ returns-then-level-eq0-clause-gathered g t c =
     c.take_in.ensures.pushed
 
 pub returns-then-level-eq0-clause-nodes : goal.returns-then-level-eq0-clause-nodes
-returns-then-level-eq0-clause-nodes g t c tells key keyed kept are =
-    let look : Look = on_image shape key (g.B.Board.view c.args.board.now).state.reads in
+returns-then-level-eq0-clause-nodes g t c tells kept are =
+    let look : Look = on_image shape c.args.keys.now (g.B.Board.view c.args.board.now).state.reads in
     let root : TreeEntry = c.args.root.now in
     let at : shape.level c.args.place ≡ 0 = c.requires.level ∙ c.if-level-eq0.true in
     let under : IsFoundUnder c.args.kept.now look c.args.place root = found_top shape look root c.args.kept.now c.args.place at kept in
     taken c.take_in.result (IsPushed c.args.place root.copy c.args.touched.now c.take_in.new.touched) (fresh_of c.take_in.new.touched c.args.place ≡ Some (look c.args.place root).text)
     (AreTrue shape look root 4 c.take_in.new.touched) (damage_at look c.args.place root)
-    c.take_in.ensures.pushed (c.take_in.ensures.text tells key keyed under) (c.take_in.ensures.damage tells key keyed under)
+    c.take_in.ensures.pushed (c.take_in.ensures.text tells under) (c.take_in.ensures.damage tells under)
     (λ pushed text none.
     true_pushed c.args.place root.copy c.args.touched.now c.take_in.new.touched pushed shape look root 4 root are refl (top_entry shape look root c.args.place at) text
     (top_damage shape look root c.args.place at ∙ none))
 
 pub returns-then-level-eq0-clause-damage : goal.returns-then-level-eq0-clause-damage
-returns-then-level-eq0-clause-damage g t c tells key keyed kept are =
-    let look : Look = on_image shape key (g.B.Board.view c.args.board.now).state.reads in
+returns-then-level-eq0-clause-damage g t c tells kept are =
+    let look : Look = on_image shape c.args.keys.now (g.B.Board.view c.args.board.now).state.reads in
     let at : shape.level c.args.place ≡ 0 = c.requires.level ∙ c.if-level-eq0.true in
     subst (λ (d : Option Mismatch). ShowsLeaf c.take_in.result d) (sym (top_damage shape look c.args.root.now c.args.place at))
-    (c.take_in.ensures.damage tells key keyed (found_top shape look c.args.root.now c.args.kept.now c.args.place at kept))
+    (c.take_in.ensures.damage tells (found_top shape look c.args.root.now c.args.kept.now c.args.place at kept))
 
 pub returns-in_err-hold-clause-damage : goal.returns-in_err-hold-clause-damage
-returns-in_err-hold-clause-damage g t c tells key keyed kept are =
-    let look : Look = on_image shape key (g.B.Board.view c.args.board.now).state.reads in
+returns-in_err-hold-clause-damage g t c tells kept are =
+    let look : Look = on_image shape c.args.keys.now (g.B.Board.view c.args.board.now).state.reads in
     let root : TreeEntry = c.args.root.now in
     let place : ℕ = c.args.place in
     let k : ℕ = c.args.level - 1 in
@@ -60,7 +60,7 @@ returns-in_err-hold-clause-damage g t c tells key keyed kept are =
     let is : c.from_residual.result ≡ Err c.in_err-hold.field-0.0 = search rules in
     subst (λ (r : Result (Unit {0}) LeafAnswer). ShowsLeaf r (damage_of shape look root place)) (sym is)
     (shows_way (Unit {0}) (Unit {0}) c.in_err-hold.field-0.0 (damage_of shape look root place) (damage_of shape look root c.parent-above.result) (damage_at look place (entry_of shape look root place))
-    (way_of shape look root k place c.parent-above.result (entry_of shape look root place) at up.0 c.parent-above.ensures refl) (c.in_err-hold.ensures.damage tells key keyed kept are))
+    (way_of shape look root k place c.parent-above.result (entry_of shape look root place) at up.0 c.parent-above.ensures refl) (c.in_err-hold.ensures.damage tells kept are))
 
 pub returns-clause-gathered : goal.returns-clause-gathered
 returns-clause-gathered g t c =
@@ -76,15 +76,15 @@ returns-clause-gathered g t c =
     c.take_in-2.ensures.pushed
 
 pub returns-clause-nodes : goal.returns-clause-nodes
-returns-clause-nodes g t c tells key keyed kept are =
-    let look : Look = on_image shape key (g.B.Board.view c.args.board.now).state.reads in
+returns-clause-nodes g t c tells kept are =
+    let look : Look = on_image shape c.args.keys.now (g.B.Board.view c.args.board.now).state.reads in
     let root : TreeEntry = c.args.root.now in
     let place : ℕ = c.args.place in
     let e : TreeEntry = c.entry_under-entry.result in
     let k : ℕ = c.args.level - 1 in
     let at : shape.level place ≡ suc k = omega (arith, c.requires.level, c.if-level-eq0.false) in
     let up = above shape is_shape k place c.requires.place at in
-    let true_now : AreTrue shape look root 4 c.hold.new.touched = c.in_ok-hold.ensures.nodes tells key keyed kept are in
+    let true_now : AreTrue shape look root 4 c.hold.new.touched = c.in_ok-hold.ensures.nodes tells kept are in
     let is : e ≡ entry_of shape look root place
     = entry_under shape is_shape look root 4 k place c.parent-above.result c.slot.result c.hold.new.touched e true_now c.requires.place at (omega (arith, at, c.requires.level, c.requires.above))
     c.parent-above.ensures c.slot.ensures.slot c.in_ok-hold.ensures.held c.entry_under-entry.ensures in
@@ -93,28 +93,28 @@ returns-clause-nodes g t c tells key keyed kept are =
     = subst (λ (q : ℕ). shape.level q < 4) (sym c.parent-above.ensures) (omega (arith, up.0, at, c.requires.level, c.requires.above)) in
     let none_up : damage_of shape look root c.parent-above.result ≡ None
     = shown_true shape look root 4 c.parent-above.result c.hold.new.touched true_now inside_up low_up c.in_ok-hold.ensures.held in
-    let under : IsFoundUnder c.args.kept.now (on_image shape key (g.B.Board.view c.hold.new.board).state.reads) place e
-    = under_as shape key (g.B.Board.view c.args.board.now).state.reads (g.B.Board.view c.hold.new.board).state.reads (c.in_ok-hold.ensures.same tells) root c.args.kept.now kept place e is in
+    let under : IsFoundUnder c.args.kept.now (on_image shape c.args.keys.now (g.B.Board.view c.hold.new.board).state.reads) place e
+    = under_as shape c.args.keys.now (g.B.Board.view c.args.board.now).state.reads (g.B.Board.view c.hold.new.board).state.reads (c.in_ok-hold.ensures.same tells) root c.args.kept.now kept place e is in
     taken c.take_in-2.result (IsPushed place e.copy c.hold.new.touched c.take_in-2.new.touched) (fresh_of c.take_in-2.new.touched place ≡ Some (look place e).text)
     (AreTrue shape look root 4 c.take_in-2.new.touched) (damage_at look place e) c.take_in-2.ensures.pushed
-    (subst (λ (reads : ℕ → List ℕ). OnOk c.take_in-2.result (fresh_of c.take_in-2.new.touched place ≡ Some (on_image shape key reads place e).text)) (c.in_ok-hold.ensures.same tells)
-    (c.take_in-2.ensures.text tells key keyed under))
-    (subst (λ (reads : ℕ → List ℕ). ShowsLeaf c.take_in-2.result (damage_at (on_image shape key reads) place e)) (c.in_ok-hold.ensures.same tells) (c.take_in-2.ensures.damage tells key keyed under))
+    (subst (λ (reads : ℕ → List ℕ). OnOk c.take_in-2.result (fresh_of c.take_in-2.new.touched place ≡ Some (on_image shape c.args.keys.now reads place e).text)) (c.in_ok-hold.ensures.same tells)
+    (c.take_in-2.ensures.text tells under))
+    (subst (λ (reads : ℕ → List ℕ). ShowsLeaf c.take_in-2.result (damage_at (on_image shape c.args.keys.now reads) place e)) (c.in_ok-hold.ensures.same tells) (c.take_in-2.ensures.damage tells under))
     (λ pushed text none.
     true_pushed place e.copy c.hold.new.touched c.take_in-2.new.touched pushed shape look root 4 e true_now refl is text
     (none_way (damage_of shape look root place) (damage_of shape look root c.parent-above.result) (damage_at look place e)
     (way_of shape look root k place c.parent-above.result e at up.0 c.parent-above.ensures is) none_up none))
 
 pub returns-clause-damage : goal.returns-clause-damage
-returns-clause-damage g t c tells key keyed kept are =
-    let look : Look = on_image shape key (g.B.Board.view c.args.board.now).state.reads in
+returns-clause-damage g t c tells kept are =
+    let look : Look = on_image shape c.args.keys.now (g.B.Board.view c.args.board.now).state.reads in
     let root : TreeEntry = c.args.root.now in
     let place : ℕ = c.args.place in
     let e : TreeEntry = c.entry_under-entry.result in
     let k : ℕ = c.args.level - 1 in
     let at : shape.level place ≡ suc k = omega (arith, c.requires.level, c.if-level-eq0.false) in
     let up = above shape is_shape k place c.requires.place at in
-    let true_now : AreTrue shape look root 4 c.hold.new.touched = c.in_ok-hold.ensures.nodes tells key keyed kept are in
+    let true_now : AreTrue shape look root 4 c.hold.new.touched = c.in_ok-hold.ensures.nodes tells kept are in
     let is : e ≡ entry_of shape look root place
     = entry_under shape is_shape look root 4 k place c.parent-above.result c.slot.result c.hold.new.touched e true_now c.requires.place at (omega (arith, at, c.requires.level, c.requires.above))
     c.parent-above.ensures c.slot.ensures.slot c.in_ok-hold.ensures.held c.entry_under-entry.ensures in
@@ -123,11 +123,11 @@ returns-clause-damage g t c tells key keyed kept are =
     = subst (λ (q : ℕ). shape.level q < 4) (sym c.parent-above.ensures) (omega (arith, up.0, at, c.requires.level, c.requires.above)) in
     let none_up : damage_of shape look root c.parent-above.result ≡ None
     = shown_true shape look root 4 c.parent-above.result c.hold.new.touched true_now inside_up low_up c.in_ok-hold.ensures.held in
-    let under : IsFoundUnder c.args.kept.now (on_image shape key (g.B.Board.view c.hold.new.board).state.reads) place e
-    = under_as shape key (g.B.Board.view c.args.board.now).state.reads (g.B.Board.view c.hold.new.board).state.reads (c.in_ok-hold.ensures.same tells) root c.args.kept.now kept place e is in
+    let under : IsFoundUnder c.args.kept.now (on_image shape c.args.keys.now (g.B.Board.view c.hold.new.board).state.reads) place e
+    = under_as shape c.args.keys.now (g.B.Board.view c.args.board.now).state.reads (g.B.Board.view c.hold.new.board).state.reads (c.in_ok-hold.ensures.same tells) root c.args.kept.now kept place e is in
     shows_end (Unit {0}) c.take_in-2.result (damage_of shape look root place) (damage_of shape look root c.parent-above.result) (damage_at look place e)
     (way_of shape look root k place c.parent-above.result e at up.0 c.parent-above.ensures is) none_up
-    (subst (λ (reads : ℕ → List ℕ). ShowsLeaf c.take_in-2.result (damage_at (on_image shape key reads) place e)) (c.in_ok-hold.ensures.same tells) (c.take_in-2.ensures.damage tells key keyed under))
+    (subst (λ (reads : ℕ → List ℕ). ShowsLeaf c.take_in-2.result (damage_at (on_image shape c.args.keys.now reads) place e)) (c.in_ok-hold.ensures.same tells) (c.take_in-2.ensures.damage tells under))
 
 pub returns-clause-honest : goal.returns-clause-honest
 returns-clause-honest g t c h =

@@ -13,8 +13,8 @@ use Rattle.tree_paths.specs.Ways.{above}
 use Rattle.tree_commits.proofs.gathering.add_leaf.Goals as goal
 
 pub returns-in_err-hold-clause-damage : goal.returns-in_err-hold-clause-damage
-returns-in_err-hold-clause-damage g c tells key keyed kept are =
-    let look : Look = on_image shape key (g.B.Board.view c.args.board.now).state.reads in
+returns-in_err-hold-clause-damage g c tells kept are =
+    let look : Look = on_image shape c.args.keys.now (g.B.Board.view c.args.board.now).state.reads in
     let root : TreeEntry = c.args.root.now in
     let place : ℕ = c.leaf_place-place.result in
     let leaf : ℕ = shape.leaf_place c.args.region c.args.leaf.now.number in
@@ -26,16 +26,16 @@ returns-in_err-hold-clause-damage g c tells key keyed kept are =
     root place))
     (ap (damage_of shape look root) (sym same)
     ∙ way_of shape look root 3 place c.parent-above.result (entry_of shape look root place) c.leaf_place-place.ensures.level up.0 c.parent-above.ensures refl)
-    (c.in_err-hold.ensures.damage tells key keyed kept are))
+    (c.in_err-hold.ensures.damage tells kept are))
 
 pub returns-clause-nodes : goal.returns-clause-nodes
-returns-clause-nodes g c tells key keyed kept are =
-    let look : Look = on_image shape key (g.B.Board.view c.args.board.now).state.reads in
+returns-clause-nodes g c tells kept are =
+    let look : Look = on_image shape c.args.keys.now (g.B.Board.view c.args.board.now).state.reads in
     let root : TreeEntry = c.args.root.now in
     let place : ℕ = c.leaf_place-place.result in
     let e : TreeEntry = c.entry_under-entry.result in
     let up = above shape is_shape 3 place c.leaf_place-place.ensures.below c.leaf_place-place.ensures.level in
-    let true_now : AreTrue shape look root 4 c.hold.new.touched = c.in_ok-hold.ensures.nodes tells key keyed kept are in
+    let true_now : AreTrue shape look root 4 c.hold.new.touched = c.in_ok-hold.ensures.nodes tells kept are in
     let is : e ≡ entry_of shape look root place
     = entry_under shape is_shape look root 4 3 place c.parent-above.result c.slot.result c.hold.new.touched e true_now c.leaf_place-place.ensures.below c.leaf_place-place.ensures.level (omega arith)
     c.parent-above.ensures c.slot.ensures.slot c.in_ok-hold.ensures.held c.entry_under-entry.ensures in

@@ -22,8 +22,8 @@ use Rattle.tree_paths.specs.Shapes.{is_shape}
 use Rattle.tree_commits.proofs.gathering.gather.Goals as goal
 
 pub returns-in_err-hold-clause-damage : goal.returns-in_err-hold-clause-damage
-returns-in_err-hold-clause-damage g c tells key keyed kept n some large all =
-    let look : Look = on_image shape key (g.B.Board.view c.args.board.now).state.reads in
+returns-in_err-hold-clause-damage g c tells kept n some large all =
+    let look : Look = on_image shape c.args.keys.now (g.B.Board.view c.args.board.now).state.reads in
     let root : TreeEntry = c.args.root.now in
     let is : c.from_residual.result ≡ Err c.in_err-hold.field-0.0 = search rules in
     let inside : shape.leaf_place c.args.region 0 < 17489 = is_shape.leaf_inside c.args.region 0 c.requires.region (omega arith) in
@@ -31,7 +31,7 @@ returns-in_err-hold-clause-damage g c tells key keyed kept n some large all =
     (mismatch_shown (Unit {0}) Touched c.in_err-hold.field-0.0 (damage_of shape look root 0)
     (λ (tags : Mismatch). (l : ℕ) × (l < n) × (damage_of shape look root (shape.leaf_place c.args.region l) ≡ Some tags))
     (λ tags top. (0, omega arith, root_damages shape is_shape look root tags top (shape.level (shape.leaf_place c.args.region 0)) (shape.leaf_place c.args.region 0) refl inside))
-    (c.in_err-hold.ensures.damage tells key keyed kept (nothing_true shape look root 4 c.new-touched.result c.new-touched.ensures)))
+    (c.in_err-hold.ensures.damage tells kept (nothing_true shape look root 4 c.new-touched.result c.new-touched.ensures)))
 
 pub returns-in_err-add_leaf-clause-honest : goal.returns-in_err-add_leaf-clause-honest
 returns-in_err-add_leaf-clause-honest g c h =
@@ -40,27 +40,27 @@ returns-in_err-add_leaf-clause-honest g c h =
     (two.0, only_more _ _ _ one.1 two.1)
 
 pub returns-in_err-add_leaf-clause-damage : goal.returns-in_err-add_leaf-clause-damage
-returns-in_err-add_leaf-clause-damage g c tells key keyed kept n some large all =
+returns-in_err-add_leaf-clause-damage g c tells kept n some large all =
     let inv = c.loop-leaf.invariant in
     let xs : List Leaf = c.args.leaves.now in
     let i : ℕ = c.loop-leaf.leaf-index in
     let none : Leaf = record { number = 0; bytes = [] } in
     let leaf : Leaf = get_or xs i none in
     let below : leaf.number < n = All-get_or (λ (l : Leaf). l.number < n) xs i none c.loop-leaf-test.true all in
-    let look : Look = on_image shape key (g.B.Board.view c.args.board.now).state.reads in
+    let look : Look = on_image shape c.args.keys.now (g.B.Board.view c.args.board.now).state.reads in
     let root : TreeEntry = c.args.root.now in
     let is : c.from_residual-in_err-add_leaf.result ≡ Err c.in_err-add_leaf.field-0.0 = search rules in
-    let told = c.in_err-add_leaf.ensures.damage tells key keyed
-    (kept_as shape key (g.B.Board.view c.args.board.now).state.reads (g.B.Board.view c.loop-leaf.board).state.reads (inv.same tells) root c.args.kept.now kept)
-    (subst (λ (reads : ℕ → List ℕ). AreTrue shape (on_image shape key reads) root 4 c.loop-leaf.touched) (sym (inv.same tells)) (inv.nodes tells key keyed kept)) in
+    let told = c.in_err-add_leaf.ensures.damage tells
+    (kept_as shape c.args.keys.now (g.B.Board.view c.args.board.now).state.reads (g.B.Board.view c.loop-leaf.board).state.reads (inv.same tells) root c.args.kept.now kept)
+    (subst (λ (reads : ℕ → List ℕ). AreTrue shape (on_image shape c.args.keys.now reads) root 4 c.loop-leaf.touched) (sym (inv.same tells)) (inv.nodes tells kept)) in
     subst (λ (r : Result Touched LeafAnswer). IfMismatch r (λ tags. (l : ℕ) × (l < n) × (damage_of shape look root (shape.leaf_place c.args.region l) ≡ Some tags))) (sym is)
     (mismatch_told (Unit {0}) Touched c.in_err-add_leaf.field-0.0
-    (λ (tags : Mismatch). damage_of shape (on_image shape key (g.B.Board.view c.loop-leaf.board).state.reads) root (shape.leaf_place c.args.region leaf.number) ≡ Some tags)
+    (λ (tags : Mismatch). damage_of shape (on_image shape c.args.keys.now (g.B.Board.view c.loop-leaf.board).state.reads) root (shape.leaf_place c.args.region leaf.number) ≡ Some tags)
     (λ (tags : Mismatch). (l : ℕ) × (l < n) × (damage_of shape look root (shape.leaf_place c.args.region l) ≡ Some tags))
     (λ tags shown. (
       leaf.number,
       below,
-      subst (λ (reads : ℕ → List ℕ). damage_of shape (on_image shape key reads) root (shape.leaf_place c.args.region leaf.number) ≡ Some tags) (inv.same tells) shown,
+      subst (λ (reads : ℕ → List ℕ). damage_of shape (on_image shape c.args.keys.now reads) root (shape.leaf_place c.args.region leaf.number) ≡ Some tags) (inv.same tells) shown,
     )) told)
 
 pub loop-leaf-preserved : goal.loop-leaf-preserved
@@ -109,11 +109,11 @@ loop-leaf-preserved g c =
           ⊎_elim (λ (was : IsSome (fresh_of c.loop-leaf.touched p)). inv.among p was)
           (λ (way : IsOnWay shape 4 (shape.leaf_place c.args.region leaf.number) p). on_way c.args.region xs i none p c.loop-leaf-test.true c.requires.region small way)
           (add.among p has);
-      nodes = λ tells key keyed kept.
-          subst (λ (reads : ℕ → List ℕ). AreTrue shape (on_image shape key reads) c.args.root.now 4 c.add_leaf.new.touched) (inv.same tells)
-          (add.nodes tells key keyed
-          (kept_as shape key (g.B.Board.view c.args.board.now).state.reads (g.B.Board.view c.loop-leaf.board).state.reads (inv.same tells) c.args.root.now c.args.kept.now kept)
-          (subst (λ (reads : ℕ → List ℕ). AreTrue shape (on_image shape key reads) c.args.root.now 4 c.loop-leaf.touched) (sym (inv.same tells)) (inv.nodes tells key keyed kept)));
+      nodes = λ tells kept.
+          subst (λ (reads : ℕ → List ℕ). AreTrue shape (on_image shape c.args.keys.now reads) c.args.root.now 4 c.add_leaf.new.touched) (inv.same tells)
+          (add.nodes tells
+          (kept_as shape c.args.keys.now (g.B.Board.view c.args.board.now).state.reads (g.B.Board.view c.loop-leaf.board).state.reads (inv.same tells) c.args.root.now c.args.kept.now kept)
+          (subst (λ (reads : ℕ → List ℕ). AreTrue shape (on_image shape c.args.keys.now reads) c.args.root.now 4 c.loop-leaf.touched) (sym (inv.same tells)) (inv.nodes tells kept)));
     }
 
 pub returns-clause-count : goal.returns-clause-count

@@ -2,7 +2,6 @@ use Rattle.std.proofs.Common.{◌≡◌, ◌≢◌, ◌<◌, ℕ, true, nat_eq, 
 use Rattle.std.specs.List.{list_all}
 use Rattle.std.specs.Set.{is_member}
 use Rattle.board.specs.Steps.{CallRun}
-use Rattle.seal.specs.Keys.{AreKeysOf}
 use Rattle.store_api.specs.Ascending.{is_ascending}
 use Rattle.store_api.specs.declared.leaves.Leaf.{Leaf}
 use Rattle.tree_commits.specs.Gather.{AreTrue, leaf_among}
@@ -29,7 +28,6 @@ invariant-loop-leaf g l = record {
       → list_all (λ (later : Leaf). nat_lt n later.number) (drop l.leaf-index l.leaves) ≡ true;
   elsewhere : (r n : ℕ) → r ≢ l.region → n < 1024 → fresh_of l.touched (shape.leaf_place r n) ≡ None;
   among : (p : ℕ) → IsSome (fresh_of l.touched p) → is_member nat_eq (touchable l.region l.leaves) p ≡ true;
-  nodes : IsTrue g.B.Board.tells_reads → (key : List ℕ) → AreKeysOf l.keys key
-      → AreKept shape (on_image shape key (g.B.Board.view l.fn.board).state.reads) l.root l.kept
-      → AreTrue shape (on_image shape key (g.B.Board.view l.fn.board).state.reads) l.root 4 l.touched;
+  nodes : IsTrue g.B.Board.tells_reads → AreKept shape (on_image shape l.keys (g.B.Board.view l.fn.board).state.reads) l.root l.kept
+      → AreTrue shape (on_image shape l.keys (g.B.Board.view l.fn.board).state.reads) l.root 4 l.touched;
 }

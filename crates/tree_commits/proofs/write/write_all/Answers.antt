@@ -47,37 +47,37 @@ returns-then-node-eq0-clause-before g c h k low =
     c.in_ok-entry.ensures.elsewhere (inv.honest h) k (before_copies c.in-Some.node k low) ∙ inv.before h k low
 
 pub returns-then-node-eq0-clause-damage : goal.returns-then-node-eq0-clause-damage
-returns-then-node-eq0-clause-damage g c h first key are root place inside =
+returns-then-node-eq0-clause-damage g c h first root place inside =
     let inv = c.loop-node.invariant in
     let node : Node = c.in-Some.node in
     let ordered : AreOrdered shape (node ∷ c.pop.new.self) = subst (AreGathered shape) c.in-Some.ensures.some inv.gathered in
     let alone : c.loop-node.touched ≡ node ∷ [] = c.in-Some.ensures.some ∙ ap (λ (rest : List Node). node ∷ rest) (last_is shape node c.pop.new.self ordered c.if-node-eq0.true) in
     let w = c.in_ok-entry.ensures in
     let reads = (g.B.Board.view c.loop-node.board).state.reads in
-    last_damage shape is_shape key reads (g.B.Board.view c.write_node.new.board).state.reads node c.in_ok-entry.entry c.if-node-eq0.true (w.elsewhere (inv.honest h))
-    (w.found (inv.honest h) key are) root (shape.level place) place refl inside
-    ∙ ap (λ (nodes : List Node). damage_of shape (with_new (fresh_of nodes) (on_image shape key reads)) root place) (sym alone) ∙ inv.damage h key are root place inside
+    last_damage shape is_shape c.args.keys.now reads (g.B.Board.view c.write_node.new.board).state.reads node c.in_ok-entry.entry c.if-node-eq0.true (w.elsewhere (inv.honest h))
+    (w.found (inv.honest h)) root (shape.level place) place refl inside
+    ∙ ap (λ (nodes : List Node). damage_of shape (with_new (fresh_of nodes) (on_image shape c.args.keys.now reads)) root place) (sym alone) ∙ inv.damage h root place inside
 
 pub returns-then-node-eq0-clause-text : goal.returns-then-node-eq0-clause-text
-returns-then-node-eq0-clause-text g c h first key are root place inside at =
+returns-then-node-eq0-clause-text g c h first root place inside at =
     let inv = c.loop-node.invariant in
     let node : Node = c.in-Some.node in
     let ordered : AreOrdered shape (node ∷ c.pop.new.self) = subst (AreGathered shape) c.in-Some.ensures.some inv.gathered in
     let alone : c.loop-node.touched ≡ node ∷ [] = c.in-Some.ensures.some ∙ ap (λ (rest : List Node). node ∷ rest) (last_is shape node c.pop.new.self ordered c.if-node-eq0.true) in
     let w = c.in_ok-entry.ensures in
     let reads = (g.B.Board.view c.loop-node.board).state.reads in
-    last_text shape is_shape key reads (g.B.Board.view c.write_node.new.board).state.reads node c.in_ok-entry.entry c.if-node-eq0.true (w.elsewhere (inv.honest h))
-    (w.found (inv.honest h) key are) root (shape.level place) place refl inside
-    ∙ ap (λ (nodes : List Node). text_of shape (with_new (fresh_of nodes) (on_image shape key reads)) root place) (sym alone) ∙ inv.text h key are root place inside at
+    last_text shape is_shape c.args.keys.now reads (g.B.Board.view c.write_node.new.board).state.reads node c.in_ok-entry.entry c.if-node-eq0.true (w.elsewhere (inv.honest h))
+    (w.found (inv.honest h)) root (shape.level place) place refl inside
+    ∙ ap (λ (nodes : List Node). text_of shape (with_new (fresh_of nodes) (on_image shape c.args.keys.now reads)) root place) (sym alone) ∙ inv.text h root place inside at
 
 pub returns-then-node-eq0-clause-sealed : goal.returns-then-node-eq0-clause-sealed
-returns-then-node-eq0-clause-sealed g c first key are =
+returns-then-node-eq0-clause-sealed g c first =
     let inv = c.loop-node.invariant in
     let node : Node = c.in-Some.node in
     let ordered : AreOrdered shape (node ∷ c.pop.new.self) = subst (AreGathered shape) c.in-Some.ensures.some inv.gathered in
     let alone : c.loop-node.touched ≡ node ∷ [] = c.in-Some.ensures.some ∙ ap (λ (rest : List Node). node ∷ rest) (last_is shape node c.pop.new.self ordered c.if-node-eq0.true) in
-    sealing_end shape 4 key c.args.sequence c.args.touched.now node c.in_ok-entry.entry c.if-node-eq0.true (c.in_ok-entry.ensures.sealed key are)
-    (subst (AreSealing shape 4 key c.args.sequence c.args.touched.now) alone (inv.sealing key are))
+    sealing_end shape 4 c.args.keys.now c.args.sequence c.args.touched.now node c.in_ok-entry.entry c.if-node-eq0.true (c.in_ok-entry.ensures.sealed)
+    (subst (AreSealing shape 4 c.args.keys.now c.args.sequence c.args.touched.now) alone inv.sealing)
 
 pub returns-then-node-eq0-clause-sealed_for : goal.returns-then-node-eq0-clause-sealed_for
 returns-then-node-eq0-clause-sealed_for g c = c.in_ok-entry.ensures.sealed_for
@@ -87,15 +87,15 @@ loop-node-init g c = record {
   calls = run_none _;
   gathered = c.requires.gathered;
   ordered = λ first. first;
-  sealing = λ key are. sealing_start shape 4 key c.args.sequence c.args.touched.now;
+  sealing = sealing_start shape 4 c.args.keys.now c.args.sequence c.args.touched.now;
   writes = omega arith;
   honest = λ h. h;
   past = λ h. itself _;
   spare = λ open_at spare. spare;
   run = λ h open_at base low high first spare run. run;
   before = λ h k low. refl;
-  damage = λ h key are root place inside. refl;
-  text = λ h key are root place inside at. refl;
+  damage = λ h root place inside. refl;
+  text = λ h root place inside at. refl;
 }
 
 pub loop-node-preserved : goal.loop-node-preserved
@@ -125,10 +125,10 @@ loop-node-preserved g c =
       calls = run_more true _ _ _ inv.calls w.calls;
       gathered = gathered shape c.put.new.self after;
       ordered = λ first. after;
-      sealing = λ key are.
-          subst (AreSealing shape 4 key c.args.sequence c.args.touched.now) (sym put)
-          (sealing_more shape is_shape 4 key c.args.sequence c.args.touched.now node rest e bytes ordered ne (at_most node.place) c.entry_bytes.ensures copy sequence (w.sealed key are)
-          (subst (AreSealing shape 4 key c.args.sequence c.args.touched.now) split (inv.sealing key are)));
+      sealing =
+          subst (AreSealing shape 4 c.args.keys.now c.args.sequence c.args.touched.now) (sym put)
+          (sealing_more shape is_shape 4 c.args.keys.now c.args.sequence c.args.touched.now node rest e bytes ordered ne (at_most node.place) c.entry_bytes.ensures copy sequence w.sealed
+          (subst (AreSealing shape 4 c.args.keys.now c.args.sequence c.args.touched.now) split inv.sealing));
       writes = omega (arith, inv.writes, w.writes, shorter, longer);
       honest = λ h. w.honest (inv.honest h);
       past = λ h. followed _ _ _ (inv.past h) (w.past (inv.honest h));
@@ -139,14 +139,14 @@ loop-node-preserved g c =
           (let here : AreSpare shape open_at (node ∷ rest) = subst (AreSpare shape open_at) split (inv.spare open_at spare) in
           w.run (inv.honest h) open_at base low high first here.0 (inv.run h open_at base low high first spare run));
       before = λ h k low. w.elsewhere (inv.honest h) k (before_copies node k low) ∙ inv.before h k low;
-      damage = λ h key are root place inside.
-          ap (λ (nodes : List Node). damage_of shape (with_new (fresh_of nodes) (on_image shape key new)) root place) put
-          ∙ more_damage shape is_shape key old new node e bytes (w.elsewhere (inv.honest h)) (w.found (inv.honest h) key are) c.entry_bytes.ensures copy sequence rest ordered ne root
+      damage = λ h root place inside.
+          ap (λ (nodes : List Node). damage_of shape (with_new (fresh_of nodes) (on_image shape c.args.keys.now new)) root place) put
+          ∙ more_damage shape is_shape c.args.keys.now old new node e bytes (w.elsewhere (inv.honest h)) (w.found (inv.honest h)) c.entry_bytes.ensures copy sequence rest ordered ne root
           (shape.level place) place refl inside
-          ∙ ap (λ (nodes : List Node). damage_of shape (with_new (fresh_of nodes) (on_image shape key old)) root place) (sym split) ∙ inv.damage h key are root place inside;
-      text = λ h key are root place inside at.
-          ap (λ (nodes : List Node). text_of shape (with_new (fresh_of nodes) (on_image shape key new)) root place) put
-          ∙ more_text shape is_shape key old new node e bytes (w.elsewhere (inv.honest h)) (w.found (inv.honest h) key are) c.entry_bytes.ensures copy sequence rest ordered ne root
+          ∙ ap (λ (nodes : List Node). damage_of shape (with_new (fresh_of nodes) (on_image shape c.args.keys.now old)) root place) (sym split) ∙ inv.damage h root place inside;
+      text = λ h root place inside at.
+          ap (λ (nodes : List Node). text_of shape (with_new (fresh_of nodes) (on_image shape c.args.keys.now new)) root place) put
+          ∙ more_text shape is_shape c.args.keys.now old new node e bytes (w.elsewhere (inv.honest h)) (w.found (inv.honest h)) c.entry_bytes.ensures copy sequence rest ordered ne root
           (shape.level place) place refl inside (omega (arith, at, at_most node.place))
-          ∙ ap (λ (nodes : List Node). text_of shape (with_new (fresh_of nodes) (on_image shape key old)) root place) (sym split) ∙ inv.text h key are root place inside at;
+          ∙ ap (λ (nodes : List Node). text_of shape (with_new (fresh_of nodes) (on_image shape c.args.keys.now old)) root place) (sym split) ∙ inv.text h root place inside at;
     }

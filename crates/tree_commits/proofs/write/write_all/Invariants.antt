@@ -4,7 +4,6 @@ use Rattle.board.specs.Runs.{RunsOver}
 use Rattle.board.specs.Steps.{CallRun}
 use Rattle.epoch.specs.Past.{KeepsPast}
 use Rattle.epoch.specs.declared.header.TreeEntry.{TreeEntry}
-use Rattle.seal.specs.Keys.{AreKeysOf}
 use Rattle.tree_commits.specs.Gather.{AreGathered}
 use Rattle.tree_paths.specs.Shape.{shape}
 use Rattle.tree_commits.specs.Touched.{AreOrdered, AreSpare, fresh_of}
@@ -18,7 +17,7 @@ invariant-loop-node g l = record {
   calls : CallRun true (g.B.Board.view l.fn.board) (g.B.Board.view l.board);
   gathered : AreGathered shape l.touched;
   ordered : AreOrdered shape l.fn.touched → AreOrdered shape l.touched;
-  sealing : (key : List ℕ) → AreKeysOf l.keys key → AreSealing shape 4 key l.sequence l.fn.touched l.touched;
+  sealing : AreSealing shape 4 l.keys l.sequence l.fn.touched l.touched;
   writes : (g.B.Board.view l.board).writes + length l.touched ≤ (g.B.Board.view l.fn.board).writes + length l.fn.touched;
   honest : g.B.Board.honest l.fn.board → g.B.Board.honest l.board;
   past : g.B.Board.honest l.fn.board → KeepsPast (g.B.Board.view l.fn.board) (g.B.Board.view l.board);
@@ -27,12 +26,12 @@ invariant-loop-node g l = record {
       → AreSpare shape open_at l.fn.touched
       → RunsOver open_at base low high first (g.B.Board.view l.fn.board) → RunsOver open_at base low high first (g.B.Board.view l.board);
   before : g.B.Board.honest l.fn.board → (k : ℕ) → k < 8742 → (g.B.Board.view l.board).state.reads k ≡ (g.B.Board.view l.fn.board).state.reads k;
-  damage : g.B.Board.honest l.fn.board → (key : List ℕ) → AreKeysOf l.keys key → (root : TreeEntry) (place : ℕ) → place < 17489
-      → damage_of shape (with_new (fresh_of l.touched) (on_image shape key (g.B.Board.view l.board).state.reads)) root place
-      ≡ damage_of shape (with_new (fresh_of l.fn.touched) (on_image shape key (g.B.Board.view l.fn.board).state.reads)) root place;
-  text : g.B.Board.honest l.fn.board → (key : List ℕ) → AreKeysOf l.keys key → (root : TreeEntry) (place : ℕ) → place < 17489 → shape.level place ≡ 4
-      → text_of shape (with_new (fresh_of l.touched) (on_image shape key (g.B.Board.view l.board).state.reads)) root place
-      ≡ text_of shape (with_new (fresh_of l.fn.touched) (on_image shape key (g.B.Board.view l.fn.board).state.reads)) root place;
+  damage : g.B.Board.honest l.fn.board → (root : TreeEntry) (place : ℕ) → place < 17489
+      → damage_of shape (with_new (fresh_of l.touched) (on_image shape l.keys (g.B.Board.view l.board).state.reads)) root place
+      ≡ damage_of shape (with_new (fresh_of l.fn.touched) (on_image shape l.keys (g.B.Board.view l.fn.board).state.reads)) root place;
+  text : g.B.Board.honest l.fn.board → (root : TreeEntry) (place : ℕ) → place < 17489 → shape.level place ≡ 4
+      → text_of shape (with_new (fresh_of l.touched) (on_image shape l.keys (g.B.Board.view l.board).state.reads)) root place
+      ≡ text_of shape (with_new (fresh_of l.fn.touched) (on_image shape l.keys (g.B.Board.view l.fn.board).state.reads)) root place;
 }
 
 abbrev pub decreases-loop-node : goal.decreases-loop-node

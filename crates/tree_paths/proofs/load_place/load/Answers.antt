@@ -6,11 +6,11 @@ use Rattle.tree_paths.specs.Ways.{found_zero, zero_damage}
 use Rattle.tree_paths.proofs.load_place.load.Goals as goal
 
 pub returns-then-entry-eq0-clause-text : goal.returns-then-entry-eq0-clause-text
-returns-then-entry-eq0-clause-text g c tells key keyed = sym (ap
-    (λ (f : Found). f.text) (found_zero g.L.Layout.shape key (g.B.Board.view c.args.board.now).state.reads c.args.place c.args.entry.now c.if-entry-eq0.true))
+returns-then-entry-eq0-clause-text g c tells = sym (ap
+    (λ (f : Found). f.text) (found_zero g.L.Layout.shape c.args.keys.now (g.B.Board.view c.args.board.now).state.reads c.args.place c.args.entry.now c.if-entry-eq0.true))
 
 pub returns-then-entry-eq0-clause-damage : goal.returns-then-entry-eq0-clause-damage
-returns-then-entry-eq0-clause-damage g c tells key keyed = zero_damage g.L.Layout.shape key (g.B.Board.view c.args.board.now).state.reads c.args.place c.args.entry.now c.if-entry-eq0.true
+returns-then-entry-eq0-clause-damage g c tells = zero_damage g.L.Layout.shape c.args.keys.now (g.B.Board.view c.args.board.now).state.reads c.args.place c.args.entry.now c.if-entry-eq0.true
 
 pub returns-then-entry-eq0-clause-calls : goal.returns-then-entry-eq0-clause-calls
 returns-then-entry-eq0-clause-calls g c = run_none _

@@ -10,38 +10,38 @@ use Rattle.tree_paths.proofs.WalkLemmas.{under}
 use Rattle.tree_paths.proofs.walk.+check.Goals as goal
 
 pub returns-then-entry-eq0-clause-walk : goal.returns-then-entry-eq0-clause-walk
-returns-then-entry-eq0-clause-walk g t c tells key keyed =
-    answers_zero g.L.Layout.children (on_image g.L.Layout.shape key (g.B.Board.view c.args.board.now).state.reads) c.args.place c.args.entry.now c.args.levels c.if-entry-eq0.true
+returns-then-entry-eq0-clause-walk g t c tells =
+    answers_zero g.L.Layout.children (on_image g.L.Layout.shape c.args.keys.now (g.B.Board.view c.args.board.now).state.reads) c.args.place c.args.entry.now c.args.levels c.if-entry-eq0.true
 
 pub returns-in_err-load_right-clause-walk : goal.returns-in_err-load_right-clause-walk
-returns-in_err-load_right-clause-walk g t c tells key keyed =
-    let look : Look = on_image g.L.Layout.shape key (g.B.Board.view c.args.board.now).state.reads in
+returns-in_err-load_right-clause-walk g t c tells =
+    let look : Look = on_image g.L.Layout.shape c.args.keys.now (g.B.Board.view c.args.board.now).state.reads in
     let is : c.from_residual.result ≡ Err c.in_err-load_right.field-0.0 = search rules in
     subst (λ (r : Result ℕ VerifyAnswer). AnswersWalk look (visits g.L.Layout.children look c.args.levels c.args.place c.args.entry.now) r) (sym is)
     (answers_here g.L.Layout.children look c.args.place c.args.entry.now (Unit {0}) c.args.levels c.in_err-load_right.field-0.0 c.if-entry-eq0.false
-    (c.in_err-load_right.ensures.damage tells key keyed))
+    (c.in_err-load_right.ensures.damage tells))
 
 pub returns-then-levels-eq0-clause-walk : goal.returns-then-levels-eq0-clause-walk
-returns-then-levels-eq0-clause-walk g t c tells key keyed =
-    answers_leaf g.L.Layout.children (on_image g.L.Layout.shape key (g.B.Board.view c.args.board.now).state.reads) c.args.place c.args.entry.now c.args.levels c.if-levels-eq0.true
-    c.if-entry-eq0.false (c.in_ok-load_right.ensures.damage tells key keyed)
+returns-then-levels-eq0-clause-walk g t c tells =
+    answers_leaf g.L.Layout.children (on_image g.L.Layout.shape c.args.keys.now (g.B.Board.view c.args.board.now).state.reads) c.args.place c.args.entry.now c.args.levels c.if-levels-eq0.true
+    c.if-entry-eq0.false (c.in_ok-load_right.ensures.damage tells)
 
 pub returns-in_err-count-clause-walk : goal.returns-in_err-count-clause-walk
-returns-in_err-count-clause-walk g t c tells key keyed =
+returns-in_err-count-clause-walk g t c tells =
     let inv = c.loop-number.invariant in
-    let look : Look = on_image g.L.Layout.shape key (g.B.Board.view c.args.board.now).state.reads in
+    let look : Look = on_image g.L.Layout.shape c.args.keys.now (g.B.Board.view c.args.board.now).state.reads in
     let k : ℕ = c.args.levels - 1 in
     let one : suc k ≡ c.args.levels = omega (arith, c.if-levels-eq0.false) in
     let is : c.from_residual-in_err-count.result ≡ Err c.in_err-count.field-0.0 = search rules in
     let below : c.loop-number.number < g.L.Layout.children.fan c.args.place = subst (λ (n : ℕ). c.loop-number.number < n) c.fan-number-end.ensures c.loop-number-test.true in
-    let node = inv.node tells key keyed in
+    let node = inv.node tells in
     let here : AnswersWalk look (under g.L.Layout.children look c.args.place c.args.entry.now k c.loop-number.number) (Err c.in_err-count.field-0.0)
-    = child_answers g.L.Layout.children g.L.Layout.shape key (g.B.Board.view c.args.board.now).state.reads (g.B.Board.view c.loop-number.board).state.reads c.args.place c.args.entry.now k
+    = child_answers g.L.Layout.children g.L.Layout.shape c.args.keys.now (g.B.Board.view c.args.board.now).state.reads (g.B.Board.view c.loop-number.board).state.reads c.args.place c.args.entry.now k
     c.loop-number.number c.child.result c.load_right.new.into c.entry_at-below.result (Err c.in_err-count.field-0.0) (inv.same tells) c.child.ensures node.0 c.entry_at-below.ensures
-    (c.in_err-count.ensures.walk tells key keyed) in
+    (c.in_err-count.ensures.walk tells) in
     subst (λ (r : Result ℕ VerifyAnswer). AnswersWalk look (visits g.L.Layout.children look c.args.levels c.args.place c.args.entry.now) r) (sym is)
     (answers_below g.L.Layout.children look c.args.place c.args.entry.now c.args.levels k one c.if-entry-eq0.false node.1 c.loop-number.number c.in_err-count.field-0.0 below
-    (inv.walk tells key keyed).0 here)
+    (inv.walk tells).0 here)
 
 pub returns-in_err-count-clause-honest : goal.returns-in_err-count-clause-honest
 returns-in_err-count-clause-honest g t c h =
@@ -74,13 +74,13 @@ loop-number-preserved g t c =
       few = few_more c.loop-number.number (most_visits k) c.loop-number.count c.in_ok-count.field-0 inv.few told.few;
       same = λ tells. told.same tells ∙ inv.same tells;
       node = inv.node;
-      walk = λ tells key keyed.
-          let look : Look = on_image g.L.Layout.shape key (g.B.Board.view c.args.board.now).state.reads in
+      walk = λ tells.
+          let look : Look = on_image g.L.Layout.shape c.args.keys.now (g.B.Board.view c.args.board.now).state.reads in
           let each : ℕ → List Visit = under g.L.Layout.children look c.args.place c.args.entry.now k in
-          let so_far = inv.walk tells key keyed in
-          let here = child_answers g.L.Layout.children g.L.Layout.shape key (g.B.Board.view c.args.board.now).state.reads (g.B.Board.view c.loop-number.board).state.reads c.args.place
+          let so_far = inv.walk tells in
+          let here = child_answers g.L.Layout.children g.L.Layout.shape c.args.keys.now (g.B.Board.view c.args.board.now).state.reads (g.B.Board.view c.loop-number.board).state.reads c.args.place
           c.args.entry.now k c.loop-number.number c.child.result c.load_right.new.into c.entry_at-below.result (Ok c.in_ok-count.field-0) (inv.same tells) c.child.ensures
-          (inv.node tells key keyed).0 c.entry_at-below.ensures (told.walk tells key keyed) in
+          (inv.node tells).0 c.entry_at-below.ensures (told.walk tells) in
           (right_more look each c.loop-number.number so_far.0 here.0, counts_more each c.loop-number.number c.loop-number.count c.in_ok-count.field-0 so_far.1 here.1);
       honest = λ h.
           (let one = inv.honest h in
@@ -97,12 +97,12 @@ returns-clause-few g t c =
     few_levels c.args.levels k c.loop-number.count one (few_all c.loop-number.number (most_visits k) c.loop-number.count end c.loop-number.invariant.few)
 
 pub returns-clause-walk : goal.returns-clause-walk
-returns-clause-walk g t c tells key keyed =
+returns-clause-walk g t c tells =
     let inv = c.loop-number.invariant in
-    let look : Look = on_image g.L.Layout.shape key (g.B.Board.view c.args.board.now).state.reads in
+    let look : Look = on_image g.L.Layout.shape c.args.keys.now (g.B.Board.view c.args.board.now).state.reads in
     let k : ℕ = c.args.levels - 1 in
     let one : suc k ≡ c.args.levels = omega (arith, c.if-levels-eq0.false) in
     let end : c.loop-number.number ≡ g.L.Layout.children.fan c.args.place = omega (arith, c.fan-number-end.ensures, c.loop-number-test.false) in
-    let so_far = inv.walk tells key keyed in
-    answers_all g.L.Layout.children look c.args.place c.args.entry.now c.args.levels k one c.if-entry-eq0.false (inv.node tells key keyed).1 c.loop-number.number c.loop-number.count end
+    let so_far = inv.walk tells in
+    answers_all g.L.Layout.children look c.args.place c.args.entry.now c.args.levels k one c.if-entry-eq0.false (inv.node tells).1 c.loop-number.number c.loop-number.count end
     so_far.0 so_far.1

@@ -1,5 +1,4 @@
 use Rattle.std.proofs.Common.{◌<◌, ℕ, [], IfErr, refl, rules, true}
-use Rattle.seal.specs.Keys.{AreKeysOf}
 use Rattle.epoch.proofs.AloneLemmas.{alone_none}
 use Rattle.epoch.proofs.CallLemmas.{run_as, run_failed, run_none}
 use Rattle.epoch.specs.Commits.{IsBegun}
@@ -29,7 +28,7 @@ returns-in_err-blank_node-clause-opens g c honest h mounts =
 pub returns-in_err-root-clause-opens : goal.returns-in_err-root-clause-opens
 returns-in_err-root-clause-opens g c honest h mounts =
     let v = g.B.Board.view c.args.board.now in
-    let keyed : AreKeysOf c.args.keys.now v.key = c.requires.keyed in
+    let keyed : c.args.keys.now ≡ v.key = c.requires.keyed in
     let kept : IfErr c.from_residual-in_err-root.result (λ why. IsKeptFromOpening why) = search rules in
     format_failed volume_form IsOpenAs held_after v (g.B.Board.view c.commit.new.board) c.from_residual-in_err-root.result h
     c.from_residual-in_err-root.ensures.0 kept
@@ -42,7 +41,7 @@ returns-in_err-root-clause-opens g c honest h mounts =
 pub returns-clause-opens : goal.returns-clause-opens
 returns-clause-opens g c honest h mounts =
     let v = g.B.Board.view c.args.board.now in
-    let keyed : AreKeysOf c.args.keys.now v.key = c.requires.keyed in
+    let keyed : c.args.keys.now ≡ v.key = c.requires.keyed in
     let mounted = tree_mounted v.key NO_ROOT h v.state (mounts.1 (form_root NO_ROOT) blank) in
     let begun : IsBegun tree_form (λ key reads. FitsTree c.args.keys.now c.in_ok-blank_node.field-0 0 [] NO_ROOT key reads) v (form_root NO_ROOT) 0 h = record {
       last = mounts.0;

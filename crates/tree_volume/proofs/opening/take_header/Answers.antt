@@ -1,5 +1,4 @@
-use Rattle.std.proofs.Common.{◌≡◌, ◌<◌, ◌⊎◌, ◌∙◌, ℕ, Some, Ok, Err, inl, inr, ⊎_elim, sym, subst}
-use Rattle.seal.specs.Keys.{AreKeysOf}
+use Rattle.std.proofs.Common.{◌≡◌, ◌<◌, ◌⊎◌, ◌∙◌, ℕ, List, Some, Ok, Err, inl, inr, ⊎_elim, sym, subst}
 use Rattle.epoch.specs.Mounts.{IsKeptFromOpening, refusal_of}
 use Rattle.epoch.specs.declared.answer.OpenAnswer.{OpenAnswer}
 use Rattle.epoch.specs.declared.header.TreeEntry.{TreeEntry}
@@ -8,6 +7,7 @@ use Rattle.epoch.proofs.PastLemmas.{itself}
 use Rattle.tree_paths.specs.Shape.{first_shape}
 use Rattle.tree_paths.specs.Tree.{Look, on_image}
 use Rattle.v1_volume.specs.Answers.{open_answer}
+use Rattle.v1_volume.specs.Migrating.{AnswersOld}
 use Rattle.v1_volume.specs.Old.{old_refusal}
 use Rattle.v1_volume.specs.Versions.{volume_form}
 use Rattle.v1_volume.proofs.RefusalLemmas.{refused_told, taken_told}
@@ -35,8 +35,8 @@ pub returns-in-Ok-clause-told : goal.returns-in-Ok-clause-told
 returns-in-Ok-clause-told g c tells =
     let v = g.B.Board.view c.args.board.now in
     let look : Look = on_image first_shape v.key v.state.reads in
-    let keyed : AreKeysOf c.args.keys.now v.key = c.requires.keyed in
-    let answer = c.in-Ok.ensures.answer tells v.key keyed in
+    let keyed : c.args.keys.now ≡ v.key = c.requires.keyed in
+    let answer = subst (λ (k : List ℕ). AnswersOld (on_image first_shape k v.state.reads) c.args.header.root {A = TreeEntry} (Ok c.in-Ok.taken)) keyed (c.in-Ok.ensures.answer tells) in
     record {
       refused = tt;
       taken = refusal_old c.args.header c.requires.accepted (not_two c.args.header.version c.if-header-eq-TREE_VERSION.false) v.key v.state.reads
@@ -48,8 +48,8 @@ returns-in-Err-clause-told g c tells =
     let v = g.B.Board.view c.args.board.now in
     let n = g.B.Board.view c.migrate.new.board in
     let look : Look = on_image first_shape v.key v.state.reads in
-    let keyed : AreKeysOf c.args.keys.now v.key = c.requires.keyed in
-    let answer = c.in-Err.ensures.answer tells v.key keyed in
+    let keyed : c.args.keys.now ≡ v.key = c.requires.keyed in
+    let answer = subst (λ (k : List ℕ). AnswersOld (on_image first_shape k v.state.reads) c.args.header.root {A = TreeEntry} (Err c.in-Err.why)) keyed (c.in-Err.ensures.answer tells) in
     let told : OpenAnswer = open_answer c.in-Err.why in
     let is = refusal_old c.args.header c.requires.accepted (not_two c.args.header.version c.if-header-eq-TREE_VERSION.false) v.key v.state.reads in
     let refused : IsKeptFromOpening told ⊎ (refusal_of volume_form v.key v.state.reads (Some c.args.header) ≡ Some told) =

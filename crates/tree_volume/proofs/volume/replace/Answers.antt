@@ -4,7 +4,6 @@ use Rattle.store_api.specs.declared.leaves.Leaf.{Leaf}
 use Rattle.store_api.specs.declared.leaves.LeafAnswer.{LeafAnswer}
 use Rattle.store_api.specs.declared.leaves.LeafAnswer.TheVariants as answers
 use Rattle.store_api.specs.Volumes.{Held, IfMismatch, after_commit}
-use Rattle.seal.specs.Keys.{AreKeysOf}
 use Rattle.epoch.proofs.AloneLemmas.{alone_more, alone_read}
 use Rattle.std.specs.Prelude.{IfOk}
 use Rattle.epoch.specs.Commits.{IsBegun, IsSteady}
@@ -30,6 +29,7 @@ use Rattle.tree_commits.specs.declared.touched.Touched.{Touched}
 use Rattle.tree_volume.specs.declared.volume.Opened.{Opened}
 use Rattle.tree_commits.proofs.GatherLemmas.{gathered}
 use Rattle.tree_paths.proofs.KeptLemmas.{kept_now}
+use Rattle.tree_volume.proofs.KeyLemmas.{kept_by, leaf_for, true_for}
 use Rattle.tree_volume.proofs.VolumeLemmas.{above_all, read_replaces, told_damage, true_as}
 use Rattle.tree_volume.proofs.volume.replace.Goals as goal
 
@@ -39,13 +39,13 @@ returns-in_err-touched-clause-damage g c tells =
     let mid = g.B.Board.view c.gather.new.board in
     let e : LeafAnswer = c.in_err-touched.field-0.0 in
     let told = c.in_err-touched.ensures in
-    let keyed : AreKeysOf c.args.keys.now v.key = c.requires.keyed in
+    let keyed : c.args.keys.now ≡ v.key = c.requires.keyed in
     let is_err : c.from_residual.result ≡ Err c.in_err-touched.field-0.0 = search rules in
     let all : All (λ (leaf : Leaf). leaf.number < 1024) c.as_slice.result.now
     = above_all c.as_slice.result.now 1024 1024 (subst (λ (l : List Leaf). is_above_all l 1024 ≡ true) (sym c.as_slice.ensures.leaves) c.requires.inside) (omega arith) in
     subst (λ (r : Result Opened LeafAnswer). IfMismatch r (λ tags. (l : ℕ) × (l < 1024) × (damage_now mid c.args.opened.root c.args.region l ≡ Some tags))) (sym is_err)
     (told_damage Touched Opened e v mid c.args.opened.root c.args.region c.requires.region told.calls.key (told.same tells)
-    (told.damage tells v.key keyed (c.requires.cached tells) 1024 (omega arith) (omega arith) all))
+    (leaf_for c.args.keys.now v.key keyed v.state.reads c.args.opened.root Touched e c.args.region (told.damage tells (kept_by c.args.keys.now v.key keyed v.state.reads c.args.opened.root c.args.nodes.now.kept (c.requires.cached tells)) 1024 (omega arith) (omega arith) all)))
 
 pub returns-in_err-touched-clause-replaced : goal.returns-in_err-touched-clause-replaced
 returns-in_err-touched-clause-replaced g c h is =
@@ -53,14 +53,14 @@ returns-in_err-touched-clause-replaced g c h is =
     let mid = g.B.Board.view c.gather.new.board in
     let e : LeafAnswer = c.in_err-touched.field-0.0 in
     let told = c.in_err-touched.ensures in
-    let keyed : AreKeysOf c.args.keys.now v.key = c.requires.keyed in
+    let keyed : c.args.keys.now ≡ v.key = c.requires.keyed in
     let is_err : c.from_residual.result ≡ Err c.in_err-touched.field-0.0 = search rules in
     let all : All (λ (leaf : Leaf). leaf.number < 1024) c.as_slice.result.now
     = above_all c.as_slice.result.now 1024 1024 (subst (λ (l : List Leaf). is_above_all l 1024 ≡ true) (sym c.as_slice.ensures.leaves) c.requires.inside) (omega arith) in
     let tells = g.met.B.Board.honest_reads c.args.board.now h in
     subst (λ (r : Result Opened LeafAnswer). Replaces c.args.region c.args.leaves.now r c.args.opened v mid) (sym is_err)
     (read_replaces c.args.region c.args.leaves.now e c.args.opened v mid is told.calls.key (told.honest h).1 c.requires.region
-    (told.damage tells v.key keyed (c.requires.cached tells) 1024 (omega arith) (omega arith) all))
+    (leaf_for c.args.keys.now v.key keyed v.state.reads c.args.opened.root Touched e c.args.region (told.damage tells (kept_by c.args.keys.now v.key keyed v.state.reads c.args.opened.root c.args.nodes.now.kept (c.requires.cached tells)) 1024 (omega arith) (omega arith) all)))
 
 pub returns-in_err-touched-clause-cached : goal.returns-in_err-touched-clause-cached
 returns-in_err-touched-clause-cached g c tells =
@@ -92,7 +92,7 @@ pub returns-in-Ok-clause-made : goal.returns-in-Ok-clause-made
 returns-in-Ok-clause-made g c =
     let v = g.B.Board.view c.args.board.now in
     let told = c.in_ok-touched.ensures in
-    let keyed : AreKeysOf c.args.keys.now v.key = c.requires.keyed in
+    let keyed : c.args.keys.now ≡ v.key = c.requires.keyed in
     let few : length c.in_ok-touched.touched ≤ 2 * length c.as_slice.result.now + 6 = told.count in
     let long : length c.as_slice.result.now ≡ length c.args.leaves.now = ap length c.as_slice.ensures.leaves in
     record {
@@ -100,7 +100,8 @@ returns-in-Ok-clause-made g c =
       few = omega (arith, few, long);
       ordered = told.ordered;
       named = record { here = λ l below. told.leaves l below ∙ ap (λ (ls : List Leaf). leaf_among ls l) c.as_slice.ensures.leaves; elsewhere = told.elsewhere };
-      stood = λ tells. told.nodes tells v.key keyed (c.requires.cached tells);
+      stood = λ tells. true_for c.args.keys.now v.key keyed v.state.reads c.args.opened.root c.in_ok-touched.touched
+          (told.nodes tells (kept_by c.args.keys.now v.key keyed v.state.reads c.args.opened.root c.args.nodes.now.kept (c.requires.cached tells)));
       sealed = subst (AreSealed shape 4 v.key (c.args.opened.sequence + 1) c.in_ok-touched.touched) (ap (λ (r : Root). r.entry) c.in-Ok.ensures.root.written)
           ((c.in-Ok.ensures.entries v.key keyed).0 told.ordered);
     }
@@ -115,14 +116,16 @@ returns-in-Ok-clause-replaced g c h is =
     let told = c.in_ok-touched.ensures in
     let read = told.honest h in
     let tells = g.met.B.Board.honest_reads c.args.board.now h in
-    let keyed : AreKeysOf c.args.keys.now v.key = c.requires.keyed in
+    let keyed : c.args.keys.now ≡ v.key = c.requires.keyed in
     let touched : List Node = c.in_ok-touched.touched in
     let leaves : List Leaf = c.as_slice-2.result.now in
     let fits : FitsTree c.args.keys.now touched c.args.region leaves root mid.key mid.state.reads = record {
-      keyed = subst (λ (k : List ℕ). AreKeysOf c.args.keys.now k) (sym told.calls.key) keyed;
+      keyed = keyed ∙ sym told.calls.key;
       ordered = told.ordered;
       named = record { here = λ l below. told.leaves l below ∙ ap (λ (ls : List Leaf). leaf_among ls l) (c.as_slice.ensures.leaves ∙ sym c.as_slice-2.ensures.leaves); elsewhere = told.elsewhere };
-      stands = true_as v mid root touched told.calls.key read.1.state.reads (told.nodes tells v.key keyed (c.requires.cached tells));
+      stands = true_as v mid root touched told.calls.key read.1.state.reads
+          (true_for c.args.keys.now v.key keyed v.state.reads root touched
+          (told.nodes tells (kept_by c.args.keys.now v.key keyed v.state.reads root c.args.nodes.now.kept (c.requires.cached tells))));
     } in
     let is' : IsOpen mid root sequence = in_use_same volume_form volume_framed v mid (form_root root) sequence told.calls.key read.1.state is in
     let before : Held = held_now mid root sequence in
@@ -153,14 +156,16 @@ returns-clause-replaced g c h is =
     let told = c.in_ok-touched.ensures in
     let read = told.honest h in
     let tells = g.met.B.Board.honest_reads c.args.board.now h in
-    let keyed : AreKeysOf c.args.keys.now v.key = c.requires.keyed in
+    let keyed : c.args.keys.now ≡ v.key = c.requires.keyed in
     let touched : List Node = c.in_ok-touched.touched in
     let leaves : List Leaf = c.as_slice-2.result.now in
     let fits : FitsTree c.args.keys.now touched c.args.region leaves root mid.key mid.state.reads = record {
-      keyed = subst (λ (k : List ℕ). AreKeysOf c.args.keys.now k) (sym told.calls.key) keyed;
+      keyed = keyed ∙ sym told.calls.key;
       ordered = told.ordered;
       named = record { here = λ l below. told.leaves l below ∙ ap (λ (ls : List Leaf). leaf_among ls l) (c.as_slice.ensures.leaves ∙ sym c.as_slice-2.ensures.leaves); elsewhere = told.elsewhere };
-      stands = true_as v mid root touched told.calls.key read.1.state.reads (told.nodes tells v.key keyed (c.requires.cached tells));
+      stands = true_as v mid root touched told.calls.key read.1.state.reads
+          (true_for c.args.keys.now v.key keyed v.state.reads root touched
+          (told.nodes tells (kept_by c.args.keys.now v.key keyed v.state.reads root c.args.nodes.now.kept (c.requires.cached tells))));
     } in
     let is' : IsOpen mid root sequence = in_use_same volume_form volume_framed v mid (form_root root) sequence told.calls.key read.1.state is in
     let before : Held = held_now mid root sequence in

@@ -1,13 +1,16 @@
-use Rattle.std.proofs.Common.{◌≡◌, ◌<◌, ℕ, Result, Err, sym, ap, subst, arith, rules}
-use Rattle.seal.specs.Keys.{AreKeysOf}
+use Rattle.std.proofs.Common.{◌≡◌, ◌<◌, ℕ, true, List, Result, Err, sym, ap, subst, arith, rules}
 use Rattle.epoch.proofs.AloneLemmas.{alone_fewer, alone_more, alone_read}
 use Rattle.epoch.proofs.PastLemmas.{followed}
 use Rattle.epoch.specs.Commits.{IsBegun}
+use Rattle.epoch.specs.Forms.{is_sealed}
 use Rattle.epoch.specs.declared.header.TreeEntry.{TreeEntry}
 use Rattle.tree_commits.proofs.GatherLemmas.{gathered}
-use Rattle.tree_paths.specs.Shape.{shape}
+use Rattle.tree_paths.specs.Shape.{first_shape, shape}
+use Rattle.tree_paths.specs.Tree.{on_image}
 use Rattle.v1_volume.specs.Frame.{volume_framed}
 use Rattle.v1_volume.specs.Answers.{no_fault}
+use Rattle.v1_volume.specs.Old.{old_leaves}
+use Rattle.v1_volume.specs.Planting.{ArePlanted}
 use Rattle.v1_volume.specs.Versions.{old_root, volume_form}
 use Rattle.v1_volume.specs.declared.answer.OldAnswer.{OldAnswer}
 use Rattle.v1_volume.specs.Migrating.{FitsOld, Migrates}
@@ -25,10 +28,10 @@ returns-in_err-touched-clause-migrates g c h held at is =
     let told = c.in_err-touched.ensures in
     let e : OldAnswer = c.in_err-touched.field-0.0 in
     let tells = g.met.B.Board.honest_reads c.args.board.now h in
-    let keyed : AreKeysOf c.args.keys.now v.key = c.requires.keyed in
+    let keyed : c.args.keys.now ≡ v.key = c.requires.keyed in
     let is_err : c.from_residual.result ≡ Err e = search rules in
     subst (λ (r : Result TreeEntry OldAnswer). Migrates held r v mid) (sym is_err)
-    (read_migrates v mid mid c.args.root.now held is told.calls.key (told.honest h).1 e (told.sound tells v.key keyed is.sealed))
+    (read_migrates v mid mid c.args.root.now held is told.calls.key (told.honest h).1 e (told.sound tells (subst (λ (k : List ℕ). is_sealed volume_form k v.state.reads (old_root c.args.root.now) ≡ true) (sym keyed) is.sealed)))
 
 pub returns-then-sequence-eq18446744073709551615-clause-unchanged : goal.returns-then-sequence-eq18446744073709551615-clause-unchanged
 returns-then-sequence-eq18446744073709551615-clause-unchanged g c h other =
@@ -92,12 +95,12 @@ returns-in-Ok-clause-migrates g c h held at is =
     let told = c.in_ok-touched.ensures in
     let read = told.honest h in
     let tells = g.met.B.Board.honest_reads c.args.board.now h in
-    let keyed : AreKeysOf c.args.keys.now v.key = c.requires.keyed in
+    let keyed : c.args.keys.now ≡ v.key = c.requires.keyed in
     let begun : IsBegun volume_form (λ key reads. FitsOld c.args.keys.now c.in_ok-touched.touched (old_root c.args.root.now) key reads) mid (old_root c.args.root.now) c.args.sequence held
     = record {
       last = at;
       mounted = mounted_mid v mid new c.args.root.now held is told.calls.key read.1;
-      fits = fits_read v mid c.args.keys.now c.in_ok-touched.touched c.args.root.now told.calls.key read.1.state.reads keyed told.ordered (told.planted tells v.key keyed);
+      fits = fits_read v mid c.args.keys.now c.in_ok-touched.touched c.args.root.now told.calls.key read.1.state.reads keyed told.ordered (subst (λ (k : List ℕ). ArePlanted c.in_ok-touched.touched (old_leaves (on_image first_shape k v.state.reads) c.args.root.now)) keyed (told.planted tells));
     } in
     done_migrates v mid new c.args.root.now held is told.calls.key read.1 c.in-Ok.root (c.in-Ok.ensures.commits read.0 held begun).done.0 (c.in-Ok.ensures.commits read.0 held begun).crash
 
@@ -109,12 +112,12 @@ returns-clause-migrates g c h held at is =
     let told = c.in_ok-touched.ensures in
     let read = told.honest h in
     let tells = g.met.B.Board.honest_reads c.args.board.now h in
-    let keyed : AreKeysOf c.args.keys.now v.key = c.requires.keyed in
+    let keyed : c.args.keys.now ≡ v.key = c.requires.keyed in
     let begun : IsBegun volume_form (λ key reads. FitsOld c.args.keys.now c.in_ok-touched.touched (old_root c.args.root.now) key reads) mid (old_root c.args.root.now) c.args.sequence held
     = record {
       last = at;
       mounted = mounted_mid v mid new c.args.root.now held is told.calls.key read.1;
-      fits = fits_read v mid c.args.keys.now c.in_ok-touched.touched c.args.root.now told.calls.key read.1.state.reads keyed told.ordered (told.planted tells v.key keyed);
+      fits = fits_read v mid c.args.keys.now c.in_ok-touched.touched c.args.root.now told.calls.key read.1.state.reads keyed told.ordered (subst (λ (k : List ℕ). ArePlanted c.in_ok-touched.touched (old_leaves (on_image first_shape k v.state.reads) c.args.root.now)) keyed (told.planted tells));
     } in
     failed_migrates v mid new c.args.root.now held is told.calls.key read.1 (c.in-Err.ensures.commits read.0 held begun).crash
 
@@ -155,5 +158,5 @@ returns-then-sequence-eq18446744073709551615-clause-cause g c failed =
     (ap (λ (r : Result TreeEntry OldAnswer). no_fault r) failed)
 
 pub returns-then-sequence-eq18446744073709551615-clause-answer : goal.returns-then-sequence-eq18446744073709551615-clause-answer
-returns-then-sequence-eq18446744073709551615-clause-answer g c tells key keyed =
+returns-then-sequence-eq18446744073709551615-clause-answer g c tells =
     last_says _ _ c.from.result (last_told c.exhaust.result c.from.result c.from.ensures c.exhaust.ensures.answer)

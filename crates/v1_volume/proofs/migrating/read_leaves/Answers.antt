@@ -5,7 +5,7 @@ use Rattle.v1_volume.proofs.PlantLemmas.{are_planted}
 use Rattle.v1_volume.proofs.migrating.read_leaves.Goals as goal
 
 pub returns-clause-planted : goal.returns-clause-planted
-returns-clause-planted g c tells key keyed =
-    let look : Look = on_image first_shape key (g.B.Board.view c.args.board.now).state.reads in
+returns-clause-planted g c tells =
+    let look : Look = on_image first_shape c.args.keys.now (g.B.Board.view c.args.board.now).state.reads in
     are_planted c.in_ok-plant_all.field-0 (old_leaves look c.args.root.now) c.in_ok-regions.regions.items c.in_ok-plant_all.ensures.blank
-    (c.in_ok-regions.ensures.converted tells key keyed) c.in_ok-plant_all.ensures.leaves
+    (c.in_ok-regions.ensures.converted tells) c.in_ok-plant_all.ensures.leaves

@@ -18,7 +18,7 @@ loop-group-init g c = record {
   same = λ tells. refl;
   honest = λ h. (h, only_itself _);
   long = search rules;
-  read = λ tells key keyed i low. absurd (omega (arith, low));
+  read = λ tells i low. absurd (omega (arith, low));
 }
 
 pub loop-group-preserved : goal.loop-group-preserved
@@ -34,24 +34,24 @@ loop-group-preserved g c =
           let two = told.honest one.0 in
           (two.0, only_more _ _ _ one.1 two.1));
       long = told.whole;
-      read = λ tells key keyed.
-          subst (λ (reads : ℕ → List ℕ). AreRead (on_image first_shape key reads) c.args.root.now c.args.region (16 * (c.loop-group.group + 1)) c.read_group.new.leaves.items) (inv.same tells)
-          (told.read tells key keyed
-          (subst (λ (reads : ℕ → List ℕ). AreRead (on_image first_shape key reads) c.args.root.now c.args.region (16 * c.loop-group.group) c.loop-group.leaves.items) (sym (inv.same tells))
-          (inv.read tells key keyed)));
+      read = λ tells.
+          subst (λ (reads : ℕ → List ℕ). AreRead (on_image first_shape c.args.keys.now reads) c.args.root.now c.args.region (16 * (c.loop-group.group + 1)) c.read_group.new.leaves.items) (inv.same tells)
+          (told.read tells
+          (subst (λ (reads : ℕ → List ℕ). AreRead (on_image first_shape c.args.keys.now reads) c.args.root.now c.args.region (16 * c.loop-group.group) c.loop-group.leaves.items) (sym (inv.same tells))
+          (inv.read tells)));
     }
 
 pub returns-in_err-read_group-clause-damage : goal.returns-in_err-read_group-clause-damage
-returns-in_err-read_group-clause-damage g c tells key keyed =
+returns-in_err-read_group-clause-damage g c tells =
     let inv = c.loop-group.invariant in
-    let look : Look = on_image first_shape key (g.B.Board.view c.args.board.now).state.reads in
+    let look : Look = on_image first_shape c.args.keys.now (g.B.Board.view c.args.board.now).state.reads in
     let is : c.from_residual.result ≡ Err c.in_err-read_group.field-0.0 = search rules in
     subst (λ (r : Result (Vec (List ℕ) Global) LeafAnswer).
     IfMismatch r (λ tags. (leaf : ℕ) × (leaf < 256) × (old_damage look c.args.root.now c.args.region leaf ≡ Some tags))) (sym is)
     (subst (λ (reads : ℕ → List ℕ).
     IfMismatch {A = Vec (List ℕ) Global} (Err c.in_err-read_group.field-0.0)
-    (λ tags. (leaf : ℕ) × (leaf < 256) × (old_damage (on_image first_shape key reads) c.args.root.now c.args.region leaf ≡ Some tags))) (inv.same tells)
-    (damage_still (Unit {0}) (Vec (List ℕ) Global) c.in_err-read_group.field-0.0 _ (c.in_err-read_group.ensures.damage tells key keyed)))
+    (λ tags. (leaf : ℕ) × (leaf < 256) × (old_damage (on_image first_shape c.args.keys.now reads) c.args.root.now c.args.region leaf ≡ Some tags))) (inv.same tells)
+    (damage_still (Unit {0}) (Vec (List ℕ) Global) c.in_err-read_group.field-0.0 _ (c.in_err-read_group.ensures.damage tells)))
 
 pub returns-in_err-read_group-clause-honest : goal.returns-in_err-read_group-clause-honest
 returns-in_err-read_group-clause-honest g c h =
@@ -60,8 +60,8 @@ returns-in_err-read_group-clause-honest g c h =
     (two.0, only_more _ _ _ one.1 two.1)
 
 pub returns-clause-leaves : goal.returns-clause-leaves
-returns-clause-leaves g c tells key keyed =
+returns-clause-leaves g c tells =
     let all : c.loop-group.group ≡ 16 = omega (arith, c.loop-group-test.false, c.loop-group.auto.group-end) in
-    leaves_read (on_image first_shape key (g.B.Board.view c.args.board.now).state.reads) c.args.root.now c.args.region c.loop-group.leaves.items
+    leaves_read (on_image first_shape c.args.keys.now (g.B.Board.view c.args.board.now).state.reads) c.args.root.now c.args.region c.loop-group.leaves.items
     (omega (arith, c.loop-group.invariant.long, all))
-    (λ i low. c.loop-group.invariant.read tells key keyed i (omega (arith, low, all)))
+    (λ i low. c.loop-group.invariant.read tells i (omega (arith, low, all)))

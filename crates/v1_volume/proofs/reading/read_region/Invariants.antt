@@ -1,6 +1,5 @@
 use Rattle.std.proofs.Common.{◌≡◌, ◌*◌, ℕ, true, List, IsTrue, length}
 use Rattle.board.specs.Steps.{CallRun}
-use Rattle.seal.specs.Keys.{AreKeysOf}
 use Rattle.epoch.specs.Reading.{OnlyReads}
 use Rattle.tree_paths.specs.Shape.{first_shape}
 use Rattle.tree_paths.specs.Tree.{on_image}
@@ -15,6 +14,5 @@ invariant-loop-group g l = record {
   same : IsTrue g.B.Board.tells_reads → (g.B.Board.view l.board).state.reads ≡ (g.B.Board.view l.fn.board).state.reads;
   honest : g.B.Board.honest l.fn.board → g.B.Board.honest l.board × OnlyReads (g.B.Board.view l.fn.board) (g.B.Board.view l.board);
   long : length l.leaves.items ≡ 16 * l.group;
-  read : IsTrue g.B.Board.tells_reads → (key : List ℕ) → AreKeysOf l.keys key
-      → AreRead (on_image first_shape key (g.B.Board.view l.fn.board).state.reads) l.root l.region (16 * l.group) l.leaves.items;
+  read : IsTrue g.B.Board.tells_reads → AreRead (on_image first_shape l.keys (g.B.Board.view l.fn.board).state.reads) l.root l.region (16 * l.group) l.leaves.items;
 }

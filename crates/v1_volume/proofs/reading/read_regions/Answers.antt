@@ -27,45 +27,45 @@ loop-region-preserved g c =
       long = ap length c.in-Ok.ensures.items ∙ more_regions c.loop-region.regions.items c.in_ok-leaves.leaves ∙ ap (λ (n : ℕ). n + 1) inv.long;
       right = inv.right;
       numbered = numbered_more c.loop-region.regions.items _ c.in_ok-leaves.leaves c.loop-region.region inv.long c.in-Ok.ensures.items inv.numbered told.numbers;
-      converted = λ tells key keyed.
-          (let look : Look = on_image first_shape key (g.B.Board.view c.args.board.now).state.reads in
+      converted = λ tells.
+          (let look : Look = on_image first_shape c.args.keys.now (g.B.Board.view c.args.board.now).state.reads in
           let here : IsConverted (old_leaves look c.args.root.now c.loop-region.region) c.in_ok-leaves.leaves
-          = subst (λ (reads : ℕ → List ℕ). IsConverted (old_leaves (on_image first_shape key reads) c.args.root.now c.loop-region.region) c.in_ok-leaves.leaves) (inv.same tells)
-          (told.answer tells key keyed) in
+          = subst (λ (reads : ℕ → List ℕ). IsConverted (old_leaves (on_image first_shape c.args.keys.now reads) c.args.root.now c.loop-region.region) c.in_ok-leaves.leaves) (inv.same tells)
+          (told.answer tells) in
           converted_more (old_leaves look c.args.root.now) c.loop-region.regions.items _ c.in_ok-leaves.leaves c.loop-region.region inv.long c.in-Ok.ensures.items
-          (inv.converted tells key keyed) here);
+          (inv.converted tells) here);
     }
 
 pub returns-in_err-leaves-clause-walk : goal.returns-in_err-leaves-clause-walk
-returns-in_err-leaves-clause-walk g c tells key keyed =
+returns-in_err-leaves-clause-walk g c tells =
     let inv = c.loop-region.invariant in
     let reads = (g.B.Board.view c.args.board.now).state.reads in
-    let look : Look = on_image first_shape key reads in
+    let look : Look = on_image first_shape c.args.keys.now reads in
     let e : OldAnswer = c.in_err-leaves.field-0.0 in
     let shows : IfMismatch {A = List Leaf} (Err e) (λ tags. (leaf : ℕ) × (leaf < 256) × (old_damage look c.args.root.now c.loop-region.region leaf ≡ Some tags))
     = subst (λ (r : ℕ → List ℕ).
-    IfMismatch {A = List Leaf} (Err e) (λ tags. (leaf : ℕ) × (leaf < 256) × (old_damage (on_image first_shape key r) c.args.root.now c.loop-region.region leaf ≡ Some tags)))
-    (inv.same tells) (c.in_err-leaves.ensures.damage tells key keyed) in
+    IfMismatch {A = List Leaf} (Err e) (λ tags. (leaf : ℕ) × (leaf < 256) × (old_damage (on_image first_shape c.args.keys.now r) c.args.root.now c.loop-region.region leaf ≡ Some tags)))
+    (inv.same tells) (c.in_err-leaves.ensures.damage tells) in
     let is : c.from_residual-in_err-leaves.result ≡ Err e = search rules in
     subst (λ (r : Result (Vec (List Leaf) Global) OldAnswer). AnswersWalk look (old_visits look c.args.root.now) r) (sym is)
-    (walk_stays look c.args.root.now (image_skips first_shape key reads) (inv.right tells key keyed) (List Leaf) (Vec (List Leaf) Global) c.loop-region.region e c.loop-region-test.true shows)
+    (walk_stays look c.args.root.now (image_skips first_shape c.args.keys.now reads) (inv.right tells) (List Leaf) (Vec (List Leaf) Global) c.loop-region.region e c.loop-region-test.true shows)
 
 pub returns-in_err-leaves-clause-rules : goal.returns-in_err-leaves-clause-rules
-returns-in_err-leaves-clause-rules g c tells key keyed =
+returns-in_err-leaves-clause-rules g c tells =
     let inv = c.loop-region.invariant in
-    let look : Look = on_image first_shape key (g.B.Board.view c.args.board.now).state.reads in
+    let look : Look = on_image first_shape c.args.keys.now (g.B.Board.view c.args.board.now).state.reads in
     let e : OldAnswer = c.in_err-leaves.field-0.0 in
     let told : AnswersRegion c.loop-region.region (old_leaves look c.args.root.now c.loop-region.region) (Err e)
-    = subst (λ (r : ℕ → List ℕ). AnswersRegion c.loop-region.region (old_leaves (on_image first_shape key r) c.args.root.now c.loop-region.region) (Err e)) (inv.same tells)
-    (c.in_err-leaves.ensures.answer tells key keyed) in
+    = subst (λ (r : ℕ → List ℕ). AnswersRegion c.loop-region.region (old_leaves (on_image first_shape c.args.keys.now r) c.args.root.now c.loop-region.region) (Err e)) (inv.same tells)
+    (c.in_err-leaves.ensures.answer tells) in
     let is : c.from_residual-in_err-leaves.result ≡ Err e = search rules in
     subst (λ (r : Result (Vec (List Leaf) Global) OldAnswer). AnswersRules (old_leaves look c.args.root.now) r) (sym is)
-    (broken_first (Vec (List Leaf) Global) (old_leaves look c.args.root.now) c.loop-region.region e c.loop-region-test.true (λ r less. (inv.converted tells key keyed r less).stand) told)
+    (broken_first (Vec (List Leaf) Global) (old_leaves look c.args.root.now) c.loop-region.region e c.loop-region-test.true (λ r less. (inv.converted tells r less).stand) told)
 
 pub returns-in_err-leaves-clause-sound : goal.returns-in_err-leaves-clause-sound
-returns-in_err-leaves-clause-sound g c tells key keyed sealed =
-    sound_read key (g.B.Board.view c.args.board.now).state.reads c.args.root.now sealed (Vec (List Leaf) Global) c.from_residual-in_err-leaves.result
-    (returns-in_err-leaves-clause-walk g c tells key keyed) (returns-in_err-leaves-clause-rules g c tells key keyed)
+returns-in_err-leaves-clause-sound g c tells sealed =
+    sound_read c.args.keys.now (g.B.Board.view c.args.board.now).state.reads c.args.root.now sealed (Vec (List Leaf) Global) c.from_residual-in_err-leaves.result
+    (returns-in_err-leaves-clause-walk g c tells) (returns-in_err-leaves-clause-rules g c tells)
 
 pub returns-in_err-leaves-clause-honest : goal.returns-in_err-leaves-clause-honest
 returns-in_err-leaves-clause-honest g c h =
@@ -80,20 +80,20 @@ returns-in-Err-clause-honest g c h =
     (two.0, only_more _ _ _ one.1 two.1)
 
 pub returns-in_err-verify-clause-rules : goal.returns-in_err-verify-clause-rules
-returns-in_err-verify-clause-rules g c tells key keyed =
-    let look : Look = on_image first_shape key (g.B.Board.view c.args.board.now).state.reads in
+returns-in_err-verify-clause-rules g c tells =
+    let look : Look = on_image first_shape c.args.keys.now (g.B.Board.view c.args.board.now).state.reads in
     let is : c.from_residual.result ≡ Err c.in_err-verify.field-0.0 = search rules in
     subst (λ (r : Result (Vec (List Leaf) Global) OldAnswer). AnswersRules (old_leaves look c.args.root.now) r) (sym is)
     (other_answer (Vec (List Leaf) Global) (old_leaves look c.args.root.now) c.in_err-verify.field-0.0 c.in_err-verify.ensures.no_rules)
 
 pub returns-in_err-verify-clause-walk : goal.returns-in_err-verify-clause-walk
-returns-in_err-verify-clause-walk g c tells key keyed =
-    let look : Look = on_image first_shape key (g.B.Board.view c.args.board.now).state.reads in
+returns-in_err-verify-clause-walk g c tells =
+    let look : Look = on_image first_shape c.args.keys.now (g.B.Board.view c.args.board.now).state.reads in
     let is : c.from_residual.result ≡ Err c.in_err-verify.field-0.0 = search rules in
     subst (λ (r : Result (Vec (List Leaf) Global) OldAnswer). AnswersWalk look (old_visits look c.args.root.now) r) (sym is)
-    (walk_as (Unit {0}) (Vec (List Leaf) Global) look (old_visits look c.args.root.now) c.in_err-verify.field-0.0 (c.in_err-verify.ensures.walk tells key keyed))
+    (walk_as (Unit {0}) (Vec (List Leaf) Global) look (old_visits look c.args.root.now) c.in_err-verify.field-0.0 (c.in_err-verify.ensures.walk tells))
 
 pub returns-in_err-verify-clause-sound : goal.returns-in_err-verify-clause-sound
-returns-in_err-verify-clause-sound g c tells key keyed sealed =
-    sound_read key (g.B.Board.view c.args.board.now).state.reads c.args.root.now sealed (Vec (List Leaf) Global) c.from_residual.result
-    (returns-in_err-verify-clause-walk g c tells key keyed) (returns-in_err-verify-clause-rules g c tells key keyed)
+returns-in_err-verify-clause-sound g c tells sealed =
+    sound_read c.args.keys.now (g.B.Board.view c.args.board.now).state.reads c.args.root.now sealed (Vec (List Leaf) Global) c.from_residual.result
+    (returns-in_err-verify-clause-walk g c tells) (returns-in_err-verify-clause-rules g c tells)

@@ -1,6 +1,5 @@
 use Rattle.std.proofs.Common.{◌≡◌, ◌<◌, ℕ, true, List, None, IsTrue, length}
 use Rattle.board.specs.Steps.{CallRun}
-use Rattle.seal.specs.Keys.{AreKeysOf}
 use Rattle.epoch.specs.Reading.{OnlyReads}
 use Rattle.store_api.specs.Ascending.{is_above_all}
 use Rattle.tree_paths.specs.Shape.{first_shape}
@@ -17,11 +16,9 @@ invariant-loop-region g l = record {
   same : IsTrue g.B.Board.tells_reads → (g.B.Board.view l.board).state.reads ≡ (g.B.Board.view l.fn.board).state.reads;
   honest : g.B.Board.honest l.fn.board → g.B.Board.honest l.board × OnlyReads (g.B.Board.view l.fn.board) (g.B.Board.view l.board);
   long : length l.regions.items ≡ l.region;
-  right : IsTrue g.B.Board.tells_reads → (key : List ℕ) → AreKeysOf l.keys key
-      → let look : Look = on_image first_shape key (g.B.Board.view l.fn.board).state.reads in
+  right : IsTrue g.B.Board.tells_reads → let look : Look = on_image first_shape l.keys (g.B.Board.view l.fn.board).state.reads in
       first_wrong look (old_visits look l.root) ≡ None;
   numbered : (r : ℕ) → r < l.region → IsTrue (is_above_all (named_of l.regions.items r) 1024);
-  converted : IsTrue g.B.Board.tells_reads → (key : List ℕ) → AreKeysOf l.keys key
-      → let look : Look = on_image first_shape key (g.B.Board.view l.fn.board).state.reads in
+  converted : IsTrue g.B.Board.tells_reads → let look : Look = on_image first_shape l.keys (g.B.Board.view l.fn.board).state.reads in
       (r : ℕ) → r < l.region → IsConverted (old_leaves look l.root r) (named_of l.regions.items r);
 }

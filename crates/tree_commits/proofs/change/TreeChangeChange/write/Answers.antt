@@ -1,9 +1,10 @@
-use Rattle.std.proofs.Common.{◌<◌, ℕ, true, refl}
+use Rattle.std.proofs.Common.{◌<◌, ℕ, List, true, refl, subst}
 use Rattle.epoch.proofs.AloneLemmas.{alone_run}
 use Rattle.epoch.specs.Commits.{spare}
 use Rattle.epoch.proofs.SettledLemmas.{settled_run, settled_starts}
 use Rattle.tree_paths.specs.Form.{form_root, tree_form}
 use Rattle.tree_paths.specs.Shape.{shape}
+use Rattle.tree_commits.specs.Sealed.{AreSealed}
 use Rattle.tree_commits.specs.Touched.{AreSpare}
 use Rattle.tree_paths.specs.Shapes.{is_shape}
 use Rattle.tree_commits.proofs.ChangeLemmas.{all_spare, apart_spare, nodes_spare, tree_written}
@@ -15,7 +16,7 @@ returns-clause-written g c h fits sealed =
     let w = c.in_ok-self.ensures in
     tree_written v.key v.state.reads _ c.args.self.now.keys.now c.args.self.now.touched c.args.self.now.region c.args.self.now.leaves.now c.args.self.now.root _
     c.args.self.now.within c.args.self.now.inside fits sealed
-    (w.damage h fits.ordered v.key fits.keyed c.args.self.now.root) (w.text h fits.ordered v.key fits.keyed c.args.self.now.root)
+    (w.damage h fits.ordered c.args.self.now.root) (w.text h fits.ordered c.args.self.now.root)
 
 pub returns-in_err-self-clause-run : goal.returns-in_err-self-clause-run
 returns-in_err-self-clause-run g c h slot low high first fits run =
@@ -63,4 +64,4 @@ pub returns-clause-root : goal.returns-clause-root
 returns-clause-root g c = record { written = refl; sealed_for = c.in_ok-self.ensures.sealed_for }
 
 pub returns-clause-entries : goal.returns-clause-entries
-returns-clause-entries g c key keyed = (λ ordered. c.in_ok-self.ensures.sealed ordered key keyed, keyed)
+returns-clause-entries g c key keyed = (λ ordered. subst (λ (k : List ℕ). AreSealed shape 4 k c.args.sequence c.args.self.now.touched _) keyed (c.in_ok-self.ensures.sealed ordered), keyed)

@@ -1,6 +1,5 @@
 use Rattle.std.proofs.Common.{◌≡◌, ◌∙◌, ◌||◌, ℕ, List, Bool, Some, refl, sym, ap, subst}
 use Rattle.tee_base.proofs.Crash.{mapped}
-use Rattle.seal.specs.Keys.{AreKeysOf}
 use Rattle.board.specs.Moment.{moment, left_since}
 use Rattle.epoch.proofs.KeepLemmas.{crash_read, held_same, in_use_same, steady_read}
 use Rattle.epoch.specs.Forms.{held_of}
@@ -10,6 +9,7 @@ use Rattle.v1_volume.specs.Frame.{volume_framed}
 use Rattle.v1_volume.proofs.NewLemmas.{new_sealed}
 use Rattle.tree_volume.specs.Keeping.{held_now}
 use Rattle.tree_volume.proofs.AnewLemmas.{anew_open}
+use Rattle.tree_volume.proofs.KeyLemmas.{walk_for}
 use Rattle.tree_volume.proofs.VolumeLemmas.{on_new}
 use Rattle.tree_paths.specs.WalkAnswers.{has_failed}
 use Rattle.tree_paths.proofs.VerifyLemmas.{answer_sealed, answer_sound}
@@ -45,14 +45,20 @@ pub returns-clause-sealed : goal.returns-clause-sealed
 returns-clause-sealed g c tells =
     let old = c.args.self.now in
     let v = g.B.Board.view old.board in
-    let keyed : AreKeysOf old.keys v.key = old.keyed in
-    on_new v.key v.state.reads old.root c.check-answer.result (answer_sealed v.key v.state.reads old.root c.check-answer.result (c.check-answer.ensures.walk tells v.key keyed))
+    let keyed : old.keys ≡ v.key = old.keyed in
+    on_new v.key v.state.reads old.root c.check-answer.result (answer_sealed v.key v.state.reads old.root c.check-answer.result (walk_for old.keys v.key keyed v.state.reads old.root c.check-answer.result (c.check-answer.ensures.walk tells)))
 
 pub returns-clause-sound : goal.returns-clause-sound
 returns-clause-sound g c h live =
     let old = c.args.self.now in
     let v = g.B.Board.view old.board in
     let tells = g.met.B.Board.honest_reads old.board h.0 in
-    let keyed : AreKeysOf old.keys v.key = old.keyed in
+    let keyed : old.keys ≡ v.key = old.keyed in
     answer_sound v.key v.state.reads old.root c.check-answer.result (sym (new_sealed v.key v.state.reads old.root) ∙ (h.1 live).sealed)
-    c.check-answer.ensures.answer (c.check-answer.ensures.walk tells v.key keyed)
+    c.check-answer.ensures.answer (walk_for old.keys v.key keyed v.state.reads old.root c.check-answer.result (c.check-answer.ensures.walk tells))
+
+pub returns-clause-walk : goal.returns-clause-walk
+returns-clause-walk g c tells live =
+    let old = c.args.self.now in
+    let v = g.B.Board.view old.board in
+    walk_for old.keys v.key old.keyed v.state.reads old.root c.check-answer.result (c.check-answer.ensures.walk tells)

@@ -7,7 +7,6 @@ use Rattle.epoch.proofs.AloneLemmas.{alone_fewer, alone_none}
 use Rattle.epoch.proofs.KeepLemmas.{err_cause, exhausts_at, foundation_same, if_unwritten, left_before, no_mismatch, not_lost, past_read, still_failed, still_tags, unless_failed}
 use Rattle.epoch.proofs.MountLemmas.{mounted_refuses}
 use Rattle.epoch.specs.Forms.{held_of}
-use Rattle.seal.specs.Keys.{AreKeysOf}
 use Rattle.tree_paths.specs.Form.{form_root}
 use Rattle.v1_volume.specs.Versions.{volume_form}
 use Rattle.v1_volume.specs.Frame.{volume_framed}
@@ -64,14 +63,14 @@ returns-in-Err-clause-commits g c =
 pub invariant_of-self-in-Ok : goal.invariant_of-self-in-Ok
 invariant_of-self-in-Ok g c = record {
   large = omega (arith, c.in-Ok.ensures.calls.size, c.args.self.now.large);
-  keyed = subst (AreKeysOf c.args.self.now.keys) (sym c.in-Ok.ensures.calls.key) c.args.self.now.keyed;
+  keyed = c.args.self.now.keyed ∙ sym c.in-Ok.ensures.calls.key;
   cached = c.in-Ok.ensures.cached;
 }
 
 pub invariant_of-self-in-Err : goal.invariant_of-self-in-Err
 invariant_of-self-in-Err g c = record {
   large = omega (arith, c.in-Err.ensures.calls.size, c.args.self.now.large);
-  keyed = subst (AreKeysOf c.args.self.now.keys) (sym c.in-Err.ensures.calls.key) c.args.self.now.keyed;
+  keyed = c.args.self.now.keyed ∙ sym c.in-Err.ensures.calls.key;
   cached = c.in-Err.ensures.cached;
 }
 
