@@ -44,7 +44,8 @@ pub returns-clause-exact : goal.returns-clause-exact
 returns-clause-exact g c h =
     let v = g.B.Board.view c.args.board.now in
     let keys : c.of-keys.result ≡ v.key = c.of-keys.ensures ∙ c.key.ensures in
-    let slots = subst (λ (k : List ℕ). (c.in_ok-seen.seen.first ≡ slot_of k v.state.reads 0) × (c.in_ok-seen.seen.second ≡ slot_of k v.state.reads 1)) keys (c.in_ok-seen.ensures.slots (g.met.B.Board.honest_reads c.args.board.now h)) in
+    let slots = subst (λ (k : List ℕ). (c.in_ok-seen.seen.first ≡ slot_of k v.state.reads 0) × (c.in_ok-seen.seen.second ≡ slot_of k v.state.reads 1)) keys (c.in_ok-seen.ensures.slots
+    (g.met.B.Board.honest_reads c.args.board.now h)) in
     let told = judged_opening (accepts c.args.format) v.key v.state.reads c.in_ok-seen.seen.first c.in_ok-seen.seen.second c.in_ok-seen.seen.counter c.judge.result slots.0 slots.1 c.judge.ensures in
     let large : c.args.format.blocks ≤ v.size = omega (arith, c.if-blocks-format.false, c.blocks-blocks.ensures) in
     let answers : c.match-judge.result ≢ Err Failed → c.match-judge.result ≡ header_answer c.judge.result
@@ -68,7 +69,8 @@ pub returns-clause-run : goal.returns-clause-run
 returns-clause-run g c h open_at base low high first opens run =
     let v = g.B.Board.view c.args.board.now in
     let keys : c.of-keys.result ≡ v.key = c.of-keys.ensures ∙ c.key.ensures in
-    let slots = subst (λ (k : List ℕ). (c.in_ok-seen.seen.first ≡ slot_of k v.state.reads 0) × (c.in_ok-seen.seen.second ≡ slot_of k v.state.reads 1)) keys (c.in_ok-seen.ensures.slots (g.met.B.Board.honest_reads c.args.board.now h)) in
+    let slots = subst (λ (k : List ℕ). (c.in_ok-seen.seen.first ≡ slot_of k v.state.reads 0) × (c.in_ok-seen.seen.second ≡ slot_of k v.state.reads 1)) keys (c.in_ok-seen.ensures.slots
+    (g.met.B.Board.honest_reads c.args.board.now h)) in
     let n = c.in_ok-seen.seen.counter in
     let told = judged_opening (accepts c.args.format) v.key v.state.reads c.in_ok-seen.seen.first c.in_ok-seen.seen.second n c.judge.result slots.0 slots.1 c.judge.ensures in
     let counted = c.in_ok-seen.ensures.counter h in

@@ -94,7 +94,8 @@ returns-clause-nodes g t c tells kept are =
     let none_up : damage_of shape look root c.parent-above.result ≡ None
     = shown_true shape look root 4 c.parent-above.result c.hold.new.touched true_now inside_up low_up c.in_ok-hold.ensures.held in
     let under : IsFoundUnder c.args.kept.now (on_image shape c.args.keys.now (g.B.Board.view c.hold.new.board).state.reads) place e
-    = under_as shape c.args.keys.now (g.B.Board.view c.args.board.now).state.reads (g.B.Board.view c.hold.new.board).state.reads (c.in_ok-hold.ensures.same tells) root c.args.kept.now kept place e is in
+    = under_as shape c.args.keys.now (g.B.Board.view c.args.board.now).state.reads (g.B.Board.view c.hold.new.board).state.reads
+    (c.in_ok-hold.ensures.same tells) root c.args.kept.now kept place e is in
     taken c.take_in-2.result (IsPushed place e.copy c.hold.new.touched c.take_in-2.new.touched) (fresh_of c.take_in-2.new.touched place ≡ Some (look place e).text)
     (AreTrue shape look root 4 c.take_in-2.new.touched) (damage_at look place e) c.take_in-2.ensures.pushed
     (subst (λ (reads : ℕ → List ℕ). OnOk c.take_in-2.result (fresh_of c.take_in-2.new.touched place ≡ Some (on_image shape c.args.keys.now reads place e).text)) (c.in_ok-hold.ensures.same tells)
@@ -124,7 +125,8 @@ returns-clause-damage g t c tells kept are =
     let none_up : damage_of shape look root c.parent-above.result ≡ None
     = shown_true shape look root 4 c.parent-above.result c.hold.new.touched true_now inside_up low_up c.in_ok-hold.ensures.held in
     let under : IsFoundUnder c.args.kept.now (on_image shape c.args.keys.now (g.B.Board.view c.hold.new.board).state.reads) place e
-    = under_as shape c.args.keys.now (g.B.Board.view c.args.board.now).state.reads (g.B.Board.view c.hold.new.board).state.reads (c.in_ok-hold.ensures.same tells) root c.args.kept.now kept place e is in
+    = under_as shape c.args.keys.now (g.B.Board.view c.args.board.now).state.reads (g.B.Board.view c.hold.new.board).state.reads
+    (c.in_ok-hold.ensures.same tells) root c.args.kept.now kept place e is in
     shows_end (Unit {0}) c.take_in-2.result (damage_of shape look root place) (damage_of shape look root c.parent-above.result) (damage_at look place e)
     (way_of shape look root k place c.parent-above.result e at up.0 c.parent-above.ensures is) none_up
     (subst (λ (reads : ℕ → List ℕ). ShowsLeaf c.take_in-2.result (damage_at (on_image shape c.args.keys.now reads) place e)) (c.in_ok-hold.ensures.same tells) (c.take_in-2.ensures.damage tells under))

@@ -35,7 +35,8 @@ returns-in_err-load_node-clause-damage g t c tells kept =
     let one : suc k ≡ c.args.level = omega (arith, c.if-level-eq0.false) in
     let is : c.from_residual-in_err-load_node.result ≡ Err c.in_err-load_node.field-0.0 = search rules in
     let here : ShowsLeaf {A = Unit {0}} (Err c.in_err-load_node.field-0.0) (damage_at look above c.in_ok-entry.entry)
-    = subst (λ (reads : ℕ → List ℕ). ShowsLeaf {A = Unit {0}} (Err c.in_err-load_node.field-0.0) (damage_at (on_image shape c.args.keys.now reads) above c.in_ok-entry.entry)) (c.in_ok-entry.ensures.same tells)
+    = subst (λ (reads : ℕ → List ℕ). ShowsLeaf {A = Unit {0}} (Err c.in_err-load_node.field-0.0) (damage_at (on_image shape c.args.keys.now reads) above c.in_ok-entry.entry))
+    (c.in_ok-entry.ensures.same tells)
     (c.in_err-load_node.ensures.damage tells
     (under_read shape is_shape c.args.keys.now (g.B.Board.view c.args.board.now).state.reads (g.B.Board.view c.find_entry.new.board).state.reads c.args.root.now c.args.kept.now c.args.level k
     c.args.place above c.in_ok-entry.entry one c.parent-above.ensures c.requires.place c.requires.level (c.in_ok-entry.ensures.entry tells kept) (c.in_ok-entry.ensures.same tells) kept)) in

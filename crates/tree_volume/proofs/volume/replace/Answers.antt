@@ -45,7 +45,8 @@ returns-in_err-touched-clause-damage g c tells =
     = above_all c.as_slice.result.now 1024 1024 (subst (λ (l : List Leaf). is_above_all l 1024 ≡ true) (sym c.as_slice.ensures.leaves) c.requires.inside) (omega arith) in
     subst (λ (r : Result Opened LeafAnswer). IfMismatch r (λ tags. (l : ℕ) × (l < 1024) × (damage_now mid c.args.opened.root c.args.region l ≡ Some tags))) (sym is_err)
     (told_damage Touched Opened e v mid c.args.opened.root c.args.region c.requires.region told.calls.key (told.same tells)
-    (leaf_for c.args.keys.now v.key keyed v.state.reads c.args.opened.root Touched e c.args.region (told.damage tells (kept_by c.args.keys.now v.key keyed v.state.reads c.args.opened.root c.args.nodes.now.kept (c.requires.cached tells)) 1024 (omega arith) (omega arith) all)))
+    (leaf_for c.args.keys.now v.key keyed v.state.reads c.args.opened.root Touched e c.args.region (told.damage tells
+    (kept_by c.args.keys.now v.key keyed v.state.reads c.args.opened.root c.args.nodes.now.kept (c.requires.cached tells)) 1024 (omega arith) (omega arith) all)))
 
 pub returns-in_err-touched-clause-replaced : goal.returns-in_err-touched-clause-replaced
 returns-in_err-touched-clause-replaced g c h is =
@@ -60,7 +61,8 @@ returns-in_err-touched-clause-replaced g c h is =
     let tells = g.met.B.Board.honest_reads c.args.board.now h in
     subst (λ (r : Result Opened LeafAnswer). Replaces c.args.region c.args.leaves.now r c.args.opened v mid) (sym is_err)
     (read_replaces c.args.region c.args.leaves.now e c.args.opened v mid is told.calls.key (told.honest h).1 c.requires.region
-    (leaf_for c.args.keys.now v.key keyed v.state.reads c.args.opened.root Touched e c.args.region (told.damage tells (kept_by c.args.keys.now v.key keyed v.state.reads c.args.opened.root c.args.nodes.now.kept (c.requires.cached tells)) 1024 (omega arith) (omega arith) all)))
+    (leaf_for c.args.keys.now v.key keyed v.state.reads c.args.opened.root Touched e c.args.region (told.damage tells
+    (kept_by c.args.keys.now v.key keyed v.state.reads c.args.opened.root c.args.nodes.now.kept (c.requires.cached tells)) 1024 (omega arith) (omega arith) all)))
 
 pub returns-in_err-touched-clause-cached : goal.returns-in_err-touched-clause-cached
 returns-in_err-touched-clause-cached g c tells =

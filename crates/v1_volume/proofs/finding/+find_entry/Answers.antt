@@ -32,7 +32,8 @@ returns-in_err-load-clause-damage g t c tells =
     let one : suc k ≡ c.args.level = omega (arith, c.if-level-eq0.false) in
     let is : c.from_residual-in_err-load.result ≡ Err c.in_err-load.field-0.0 = search rules in
     let here : ShowsLeaf {A = Unit {0}} (Err c.in_err-load.field-0.0) (damage_at look above c.in_ok-entry.entry)
-    = subst (λ (reads : ℕ → List ℕ). ShowsLeaf {A = Unit {0}} (Err c.in_err-load.field-0.0) (damage_at (on_image first_shape c.args.keys.now reads) above c.in_ok-entry.entry)) (c.in_ok-entry.ensures.same tells)
+    = subst (λ (reads : ℕ → List ℕ). ShowsLeaf {A = Unit {0}} (Err c.in_err-load.field-0.0) (damage_at (on_image first_shape c.args.keys.now reads) above c.in_ok-entry.entry))
+    (c.in_ok-entry.ensures.same tells)
     (c.in_err-load.ensures.damage tells) in
     subst (λ (r : Result TreeEntry LeafAnswer). ShowsLeaf r (damage_above first_shape look c.args.root.now c.args.level c.args.place)) (sym is)
     (shows_rest (Unit {0}) TreeEntry c.in_err-load.field-0.0 _ (damage_above first_shape look c.args.root.now k above) (damage_at look above c.in_ok-entry.entry)

@@ -31,7 +31,8 @@ returns-in_err-touched-clause-migrates g c h held at is =
     let keyed : c.args.keys.now ≡ v.key = c.requires.keyed in
     let is_err : c.from_residual.result ≡ Err e = search rules in
     subst (λ (r : Result TreeEntry OldAnswer). Migrates held r v mid) (sym is_err)
-    (read_migrates v mid mid c.args.root.now held is told.calls.key (told.honest h).1 e (told.sound tells (subst (λ (k : List ℕ). is_sealed volume_form k v.state.reads (old_root c.args.root.now) ≡ true) (sym keyed) is.sealed)))
+    (read_migrates v mid mid c.args.root.now held is told.calls.key (told.honest h).1 e (told.sound tells (subst (λ (k : List ℕ). is_sealed volume_form k v.state.reads
+    (old_root c.args.root.now) ≡ true) (sym keyed) is.sealed)))
 
 pub returns-then-sequence-eq18446744073709551615-clause-unchanged : goal.returns-then-sequence-eq18446744073709551615-clause-unchanged
 returns-then-sequence-eq18446744073709551615-clause-unchanged g c h other =
@@ -100,7 +101,8 @@ returns-in-Ok-clause-migrates g c h held at is =
     = record {
       last = at;
       mounted = mounted_mid v mid new c.args.root.now held is told.calls.key read.1;
-      fits = fits_read v mid c.args.keys.now c.in_ok-touched.touched c.args.root.now told.calls.key read.1.state.reads keyed told.ordered (subst (λ (k : List ℕ). ArePlanted c.in_ok-touched.touched (old_leaves (on_image first_shape k v.state.reads) c.args.root.now)) keyed (told.planted tells));
+      fits = fits_read v mid c.args.keys.now c.in_ok-touched.touched c.args.root.now told.calls.key read.1.state.reads keyed told.ordered (subst (λ
+          (k : List ℕ). ArePlanted c.in_ok-touched.touched (old_leaves (on_image first_shape k v.state.reads) c.args.root.now)) keyed (told.planted tells));
     } in
     done_migrates v mid new c.args.root.now held is told.calls.key read.1 c.in-Ok.root (c.in-Ok.ensures.commits read.0 held begun).done.0 (c.in-Ok.ensures.commits read.0 held begun).crash
 
@@ -117,7 +119,8 @@ returns-clause-migrates g c h held at is =
     = record {
       last = at;
       mounted = mounted_mid v mid new c.args.root.now held is told.calls.key read.1;
-      fits = fits_read v mid c.args.keys.now c.in_ok-touched.touched c.args.root.now told.calls.key read.1.state.reads keyed told.ordered (subst (λ (k : List ℕ). ArePlanted c.in_ok-touched.touched (old_leaves (on_image first_shape k v.state.reads) c.args.root.now)) keyed (told.planted tells));
+      fits = fits_read v mid c.args.keys.now c.in_ok-touched.touched c.args.root.now told.calls.key read.1.state.reads keyed told.ordered (subst (λ
+          (k : List ℕ). ArePlanted c.in_ok-touched.touched (old_leaves (on_image first_shape k v.state.reads) c.args.root.now)) keyed (told.planted tells));
     } in
     failed_migrates v mid new c.args.root.now held is told.calls.key read.1 (c.in-Err.ensures.commits read.0 held begun).crash
 

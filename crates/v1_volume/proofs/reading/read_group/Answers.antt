@@ -29,14 +29,17 @@ loop-number-preserved g c =
           omega (arith, longer, inv.long));
       above = inv.above;
       read = λ tells before i low.
-          (let P : ℕ → List ℕ = λ l. text_of first_shape (on_image first_shape c.args.keys.now (g.B.Board.view c.args.board.now).state.reads) c.args.root.now (first_shape.leaf_place c.args.region l) in
+          (let P : ℕ → List ℕ = λ l. text_of first_shape (on_image first_shape c.args.keys.now (g.B.Board.view c.args.board.now).state.reads) c.args.root.now
+          (first_shape.leaf_place c.args.region l) in
           let node : c.find_group.new.into
           ≡ text_of first_shape (on_image first_shape c.args.keys.now (g.B.Board.view c.loop-number.board).state.reads) c.args.root.now (group_of c.args.region (leaf / 16))
-          = subst (λ (reads : ℕ → List ℕ). c.find_group.new.into ≡ text_of first_shape (on_image first_shape c.args.keys.now reads) c.args.root.now (group_of c.args.region (leaf / 16))) (sym (inv.same tells))
+          = subst (λ (reads : ℕ → List ℕ). c.find_group.new.into ≡ text_of first_shape (on_image first_shape c.args.keys.now reads) c.args.root.now (group_of c.args.region (leaf / 16))) (sym
+          (inv.same tells))
           ((inv.above tells).0
           ∙ ap (λ (k : ℕ). text_of first_shape (on_image first_shape c.args.keys.now (g.B.Board.view c.args.board.now).state.reads) c.args.root.now (group_of c.args.region k)) (sym at)) in
           found_more P c.loop-number.leaves.items _ c.load_leaf.new.into leaf inv.long c.in-Ok.ensures.items (inv.read tells before)
-          (subst (λ (reads : ℕ → List ℕ). c.load_leaf.new.into ≡ text_of first_shape (on_image first_shape c.args.keys.now reads) c.args.root.now (first_shape.leaf_place c.args.region leaf)) (inv.same tells)
+          (subst (λ (reads : ℕ → List ℕ). c.load_leaf.new.into ≡ text_of first_shape (on_image first_shape c.args.keys.now reads) c.args.root.now (first_shape.leaf_place c.args.region leaf))
+          (inv.same tells)
           (told.text tells c.args.root.now node)) i (omega (arith, low)));
     }
 

@@ -35,7 +35,8 @@ loop-group-preserved g c =
           (two.0, only_more _ _ _ one.1 two.1));
       long = told.whole;
       read = λ tells.
-          subst (λ (reads : ℕ → List ℕ). AreRead (on_image first_shape c.args.keys.now reads) c.args.root.now c.args.region (16 * (c.loop-group.group + 1)) c.read_group.new.leaves.items) (inv.same tells)
+          subst (λ (reads : ℕ → List ℕ). AreRead (on_image first_shape c.args.keys.now reads) c.args.root.now c.args.region (16 * (c.loop-group.group + 1)) c.read_group.new.leaves.items)
+          (inv.same tells)
           (told.read tells
           (subst (λ (reads : ℕ → List ℕ). AreRead (on_image first_shape c.args.keys.now reads) c.args.root.now c.args.region (16 * c.loop-group.group) c.loop-group.leaves.items) (sym (inv.same tells))
           (inv.read tells)));

@@ -46,7 +46,8 @@ returns-clause-sealed g c tells =
     let old = c.args.self.now in
     let v = g.B.Board.view old.board in
     let keyed : old.keys ≡ v.key = old.keyed in
-    on_new v.key v.state.reads old.root c.check-answer.result (answer_sealed v.key v.state.reads old.root c.check-answer.result (walk_for old.keys v.key keyed v.state.reads old.root c.check-answer.result (c.check-answer.ensures.walk tells)))
+    on_new v.key v.state.reads old.root c.check-answer.result (answer_sealed v.key v.state.reads old.root c.check-answer.result
+    (walk_for old.keys v.key keyed v.state.reads old.root c.check-answer.result (c.check-answer.ensures.walk tells)))
 
 pub returns-clause-sound : goal.returns-clause-sound
 returns-clause-sound g c h live =

@@ -36,7 +36,8 @@ returns-in-Ok-clause-reads g c =
       sequence = refl;
       writes = told.writes;
       shows = λ tells. sym (damage_is v old.root c.args.region c.args.leaf c.requires.region small)
-          ∙ shows_for old.keys v.key keyed v.state.reads old.root {A = Unit {0}} (Ok tt) place (told.damage tells (kept_by old.keys v.key keyed v.state.reads old.root old.nodes.kept (old.cached tells)));
+          ∙ shows_for old.keys v.key keyed v.state.reads old.root {A = Unit {0}} (Ok tt) place (told.damage tells (kept_by old.keys v.key keyed v.state.reads old.root old.nodes.kept
+          (old.cached tells)));
       damage = λ tells. damage_same v w old.root told.calls.key (told.same tells);
       call = record {
         cause = record { cause = (c.if-self.false, c.if-self.false); later = told.calls.faults; unfailed = told.calls.steady refl; foundation = foundation_same v w told.calls };
@@ -75,7 +76,8 @@ returns-in-Err-clause-reads g c =
       sequence = refl;
       writes = told.writes;
       shows = λ tells. subst (ShowsLeaf {A = Unit {0}} (Err c.in-Err.answer)) damage
-          (shows_for old.keys v.key keyed v.state.reads old.root {A = Unit {0}} (Err c.in-Err.answer) place (told.damage tells (kept_by old.keys v.key keyed v.state.reads old.root old.nodes.kept (old.cached tells))));
+          (shows_for old.keys v.key keyed v.state.reads old.root {A = Unit {0}} (Err c.in-Err.answer) place (told.damage tells
+          (kept_by old.keys v.key keyed v.state.reads old.root old.nodes.kept (old.cached tells))));
       damage = λ tells. damage_same v w old.root told.calls.key (told.same tells);
       call = record {
         cause = record {
@@ -95,7 +97,8 @@ returns-in-Err-clause-reads g c =
                 anew_open w old.root old.sequence (in_use_same volume_form volume_framed v w (form_root old.root) old.sequence told.calls.key (told.honest h.0).1.state is),
               ),
               err_undamaged (Unit {0}) (Unit {0}) c.in-Err.answer _
-                  (shows_for old.keys v.key keyed v.state.reads old.root {A = Unit {0}} (Err c.in-Err.answer) place (told.damage tells (kept_by old.keys v.key keyed v.state.reads old.root old.nodes.kept (old.cached tells)))) (damage ∙ sound_open v old.root old.sequence is c.args.region c.args.leaf),
+                  (shows_for old.keys v.key keyed v.state.reads old.root {A = Unit {0}} (Err c.in-Err.answer) place (told.damage tells
+                  (kept_by old.keys v.key keyed v.state.reads old.root old.nodes.kept (old.cached tells)))) (damage ∙ sound_open v old.root old.sequence is c.args.region c.args.leaf),
             );
         quiet = λ lost. absurd (let f : true ≡ false = sym lost ∙ c.if-self.false in cc);
         past = λ h. past_read volume_form v w told.calls.key (told.honest h.0).1.past;
@@ -114,5 +117,6 @@ returns-in-Ok-clause-identified g c tells image sealed identify =
     let place : ℕ = shape.leaf_place c.args.region c.args.leaf in
     subst (λ (k : List ℕ). AreKept shape (on_image shape k v.state.reads) old.root old.nodes.kept → (other : ℕ → List ℕ)
     → damage_of shape (on_image shape k other) old.root place ≡ None → ImagesIdentify shape k v.state.reads other old.root place
-    → c.find_leaf.new.into ≡ text_of shape (on_image shape k other) old.root place) keyed (c.in-Ok.ensures.kept tells) (old.cached tells) image (sealed_each volume_form v.key (form_root old.root) image sealed c.args.region c.args.leaf c.requires.region small) identify
+    → c.find_leaf.new.into ≡ text_of shape (on_image shape k other) old.root place) keyed (c.in-Ok.ensures.kept tells) (old.cached tells) image (sealed_each volume_form v.key
+    (form_root old.root) image sealed c.args.region c.args.leaf c.requires.region small) identify
     ∙ leaf_text_is v.key image old.root c.args.region c.args.leaf c.requires.region small
