@@ -52,7 +52,8 @@ fn read_leaves<B: Board>(
         → let look = on_image first_shape keys.now (B.view board.old).state.reads in
         IfOk result (λ nodes. ArePlanted nodes (old_leaves look root.now)) }
     ensures answer { IsTrue B.tells_reads
-        → AnswersOld (on_image first_shape keys.now (B.view board.old).state.reads) root.now result }
+        → AnswersOld (on_image first_shape keys.now (B.view board.old).state.reads) root.now
+        result }
     ensures sound { IsTrue B.tells_reads
         → is_sealed volume_form keys.now (B.view board.old).state.reads (old_root root.now) ≡ true
         → IfErr result (λ why. (why ≡ answers.Failed) ⊎ (why ≡ answers.NoMemory)) }
@@ -96,7 +97,8 @@ pub fn migrate<B: Board>(
         → Unchanged (B.view board.old).state (B.view board.new).state) }
     // the first two tags that differ on the walk over all places; else the first region that breaks a rule
     ensures answer { IsTrue B.tells_reads
-        → AnswersOld (on_image first_shape keys.now (B.view board.old).state.reads) root.now result }
+        → AnswersOld (on_image first_shape keys.now (B.view board.old).state.reads) root.now
+        result }
     ensures sealed_for { IfOk result (λ entry. entry.sequence ≡ sequence + 1) }
     ensures counter { B.honest board.old → IsSettledAt sequence (B.view board.old).state
         → IfOk result (λ entry. IsSettledAt (sequence + 1) (B.view board.new).state) }
