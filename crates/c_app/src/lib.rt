@@ -1,0 +1,18 @@
+//! Applications that are programs: an image that the processor of RV32I runs over a flat memory, whose calls are the asks of an application.
+#![tactic(auto)]
+
+mod answering;
+mod app;
+mod asking;
+mod entering;
+mod outputs;
+mod places;
+pub mod registers;
+mod room;
+mod slots;
+
+pub use app::{BUDGET, CApp, MAX_MEMORY_BYTES, Phase, TooMuchMemory};
+pub use entering::{EntryCall, EntryKind, Layout};
+pub use places::Places;
+pub use room::Room;
+pub use slots::{Slot, Slots};
