@@ -4,3 +4,4 @@ pub mod Outputs
 pub mod Asking
 pub mod Answering
 pub mod Steps
+pub mod Laws

@@ -5,6 +5,7 @@ mod answering;
 mod app;
 mod asking;
 mod entering;
+mod laws;
 mod outputs;
 mod places;
 pub mod registers;
@@ -13,6 +14,7 @@ mod slots;
 
 pub use app::{BUDGET, CApp, MAX_MEMORY_BYTES, Phase, TooMuchMemory};
 pub use entering::{EntryCall, EntryKind, Layout};
+pub use laws::{asks_are_said, mistakes_panic, outputs_fit};
 pub use places::Places;
 pub use room::Room;
 pub use slots::{Slot, Slots};
