@@ -13,8 +13,6 @@ mod room;
 mod slots;
 
 pub use app::{BUDGET, CApp, MAX_MEMORY_BYTES, Phase, TooMuchMemory};
-pub use entering::{EntryCall, EntryKind, Layout};
+pub use entering::Layout;
 pub use laws::{asks_are_said, mistakes_panic, outputs_fit};
-pub use places::Places;
-pub use room::Room;
 pub use slots::{Slot, Slots};
