@@ -85,7 +85,7 @@ plain_ask n x =
     else time_ask n x
 
 -- asks with one string of bytes
-abbrev pub takes_one : ℕ → Bool
+unfoldable pub takes_one : ℕ → Bool
 takes_one n =
     n == 6 || n == 10 || n == 13 || n == 22 || n == 34 || n == 35 || n == 36 || n == 38 || n == 39 || n == 41 || n == 42
     || n == 48 || n == 49 || n == 50 || n == 51
@@ -120,8 +120,12 @@ abbrev pub ask_with_one : ℕ → (ℕ → ℕ) → Option (List ℕ) → Option
 ask_with_one n x None = None
 ask_with_one n x (Some bytes) = if nat_lt n 37 then cipher_ask n x bytes else code_ask n x bytes
 
+-- an ask with one string, as the registers and the memory say it
+unfoldable pub said_with_one : Machine → Option Ask
+said_with_one m = ask_with_one (value_of m A7) (value_of m) (bytes_at m.memory (value_of m A1) (value_of m A2))
+
 -- asks with two
-abbrev pub takes_two : ℕ → Bool
+unfoldable pub takes_two : ℕ → Bool
 takes_two n = n == 7 || n == 40 || n == 52
 
 -- an ask with two
@@ -137,11 +141,15 @@ unfoldable pub ask_with_two : ℕ → (ℕ → ℕ) → Option (List ℕ) → Op
 ask_with_two n x (Some bytes) (Some other) = two_ask n x bytes other
 ask_with_two n x bytes other = None
 
+-- an ask with two, as the registers and the memory say it
+unfoldable pub said_with_two : Machine → Option Ask
+said_with_two m =
+    ask_with_two (value_of m A7) (value_of m) (bytes_at m.memory (value_of m A1) (value_of m A2)) (bytes_at m.memory (value_of m A4) (value_of m A5))
+
 -- what the machine asks for; none where its registers and its memory say no ask
 abbrev pub ask_of : Machine → ℕ → Slots → Option Ask
 ask_of m block s =
-    let x : ℕ → ℕ = value_of m in
-    if x A7 == 0 then returned m block s
-    else if takes_one (x A7) then ask_with_one (x A7) x (bytes_at m.memory (x A1) (x A2))
-    else if takes_two (x A7) then ask_with_two (x A7) x (bytes_at m.memory (x A1) (x A2)) (bytes_at m.memory (x A4) (x A5))
-    else plain_ask (x A7) x
+    if value_of m A7 == 0 then returned m block s
+    else if takes_one (value_of m A7) then said_with_one m
+    else if takes_two (value_of m A7) then said_with_two m
+    else plain_ask (value_of m A7) (value_of m)

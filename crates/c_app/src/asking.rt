@@ -3,7 +3,7 @@
 ghost use Rattle.std.specs.Prelude.{◌≡◌, slice_index};
 ghost use Rattle.tee_base.specs.declared.limits.TheConstants.{MAX_ASK_BYTES};
 ghost use Rattle.c_app.specs.Asking as rows;
-ghost use Rattle.c_app.specs.Rooms.{IsRoom};
+ghost use Rattle.c_app.specs.Rooms.{IsFree, IsRoom};
 
 use crate::outputs::{bytes_at, returned};
 use crate::registers::{A0, A1, A2, A3, A4, A5, A6, A7};
@@ -150,6 +150,7 @@ fn plain_ask(number: u32, x: &[u32; 32]) -> Option<Ask>
     }
 }
 
+#[tactic(auto, unfolding(crate::specs::Asking::takes_one))]
 fn takes_one(n: u32) -> bool
     // The ask of this number has one string of bytes.
     ensures { result ≡ rows.takes_one n }
@@ -251,6 +252,7 @@ fn ask_with_one(number: u32, x: &[u32; 32], bytes: Option<Bytes>) -> Option<Ask>
     }
 }
 
+#[tactic(auto, unfolding(crate::specs::Asking::takes_two))]
 fn takes_two(n: u32) -> bool
     // The ask of this number has two strings of bytes.
     ensures { result ≡ rows.takes_two n }
@@ -305,6 +307,34 @@ fn ask_with_two(
     two_ask(number, x, bytes, other)
 }
 
+/// An ask with one string of bytes, which goes into a vector that has the room.
+#[tactic(auto, unfolding(crate::specs::Asking::said_with_one))]
+fn said_with_one(machine: &Machine, vector: Vec<u8>) -> Option<Ask>
+    // The vector is empty and has the room.
+    requires { IsFree MAX_ASK_BYTES vector }
+    // The ask of the number in a7, with what the registers and the memory say.
+    ensures { result ≡ rows.said_with_one machine.now }
+{
+    let x = &machine.registers;
+    let bytes = bytes_at(&machine.memory, x[A1], x[A2], vector);
+    ask_with_one(x[A7], x, bytes)
+}
+
+/// An ask with two strings of bytes, which go into vectors that have the room.
+#[tactic(auto, unfolding(crate::specs::Asking::said_with_two))]
+fn said_with_two(machine: &Machine, first: Vec<u8>, second: Vec<u8>) -> Option<Ask>
+    // The vectors are empty and have the room.
+    requires first { IsFree MAX_ASK_BYTES first }
+    requires second { IsFree MAX_ASK_BYTES second }
+    // The ask of the number in a7, with what the registers and the memory say.
+    ensures { result ≡ rows.said_with_two machine.now }
+{
+    let x = &machine.registers;
+    let bytes = bytes_at(&machine.memory, x[A1], x[A2], first);
+    let other = bytes_at(&machine.memory, x[A4], x[A5], second);
+    ask_with_two(x[A7], x, bytes, other)
+}
+
 /// What the machine asks for, and None where its registers and its memory say no ask.
 pub fn ask_of(machine: &Machine, block: u32, slots: Slots, room: Room) -> Option<Ask>
     // Six empty vectors that have the room.
@@ -312,18 +342,14 @@ pub fn ask_of(machine: &Machine, block: u32, slots: Slots, room: Room) -> Option
     // The ask of the number in a7, with what the registers and the memory say.
     ensures { result ≡ rows.ask_of machine.now block slots }
 {
-    let x = &machine.registers;
-    let memory = &machine.memory;
-    if x[A7] == 0 {
+    let number = machine.registers[A7];
+    if number == 0 {
         returned(machine, block, slots, room)
-    } else if takes_one(x[A7]) {
-        let bytes = bytes_at(memory, x[A1], x[A2], room.first);
-        ask_with_one(x[A7], x, bytes)
-    } else if takes_two(x[A7]) {
-        let bytes = bytes_at(memory, x[A1], x[A2], room.first);
-        let other = bytes_at(memory, x[A4], x[A5], room.second);
-        ask_with_two(x[A7], x, bytes, other)
+    } else if takes_one(number) {
+        said_with_one(machine, room.first)
+    } else if takes_two(number) {
+        said_with_two(machine, room.first, room.second)
     } else {
-        plain_ask(x[A7], x)
+        plain_ask(number, &machine.registers)
     }
 }

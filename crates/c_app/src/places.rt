@@ -61,6 +61,7 @@ fn places_of(block: u32, params: &Params) -> Places
     requires p0 { size_of params.now.p0 ≤ MAX_ASK_BYTES }
     requires p1 { size_of params.now.p1 ≤ MAX_ASK_BYTES }
     requires p2 { size_of params.now.p2 ≤ MAX_ASK_BYTES }
+    requires p3 { size_of params.now.p3 ≤ MAX_ASK_BYTES }
     // One buffer after the other, each at a multiple of 16.
     ensures { result ≡ rows.places_of block params.now }
 {
@@ -73,7 +74,7 @@ fn places_of(block: u32, params: &Params) -> Places
         p1,
         p2,
         p3,
-        end: p3.wrapping_add(params.p3.size() as u64),
+        end: p3 + params.p3.size() as u64,
     }
 }
 
