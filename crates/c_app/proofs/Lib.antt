@@ -1,2 +1,4 @@
 mod Said
 mod Fits
+mod Size
+mod StepSize

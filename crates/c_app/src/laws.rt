@@ -1,6 +1,6 @@
 //! What follows from the definition of a step.
 
-ghost use Rattle.std.specs.Prelude.{◌≡◌, ◌≢◌, ℕ, List, Some, None};
+ghost use Rattle.std.specs.Prelude.{◌≡◌, ◌≢◌, ℕ, List, Some, None, length};
 ghost use Rattle.app_api.specs.declared.ask.Given.{Given};
 ghost use Rattle.app_api.specs.declared.out.Out.TheVariants.{Mem as OutMem};
 ghost use Rattle.rv32.specs.declared.machine.Halt.{Halt};
@@ -34,4 +34,11 @@ pub fn outputs_fit()
     // Whatever the memory says at the address of the parameter.
     ensures { (m : List ℕ) (address room at : ℕ) (bytes : List ℕ)
         → out_at (Mem address room) m at ≡ Some (OutMem bytes) → IsOfBuffer m address room bytes }
+{}
+
+/// The memory keeps its size. So it never has more than 1 MiB where it begins so.
+pub fn memory_keeps_its_size()
+    // A step leaves as many bytes as there were.
+    ensures { (s : CApp) (given : Given)
+        → length (next_state s given).machine.memory ≡ length s.machine.memory }
 {}

@@ -14,5 +14,5 @@ mod slots;
 
 pub use app::{BUDGET, CApp, MAX_MEMORY_BYTES, Phase, TooMuchMemory};
 pub use entering::Layout;
-pub use laws::{asks_are_said, mistakes_panic, outputs_fit};
+pub use laws::{asks_are_said, memory_keeps_its_size, mistakes_panic, outputs_fit};
 pub use slots::{Slot, Slots};
