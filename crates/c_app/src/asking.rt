@@ -323,8 +323,9 @@ fn said_with_one(machine: &Machine, vector: Vec<u8>) -> Option<Ask>
 /// An ask with two strings of bytes, which go into vectors that have the room.
 #[tactic(auto, unfolding(crate::specs::Asking::said_with_two))]
 fn said_with_two(machine: &Machine, first: Vec<u8>, second: Vec<u8>) -> Option<Ask>
-    // The vectors are empty and have the room.
+    // The first vector is empty and has the room.
     requires first { IsFree MAX_ASK_BYTES first }
+    // So is the second.
     requires second { IsFree MAX_ASK_BYTES second }
     // The ask of the number in a7, with what the registers and the memory say.
     ensures { result ≡ rows.said_with_two machine.now }
