@@ -25,7 +25,14 @@ fn params(alloc: Global) -> Result<Params, NoMemory> {
 /// The outputs, where the ask is a return with this code.
 fn outs_of(ask: Ask, wanted: u32) -> Option<Outs> {
     match ask {
-        Ask::Return { code, outs } if code == Code(wanted) => Some(outs),
+        Ask::Return { code, outs } => {
+            if code == Code(wanted) {
+                Some(outs)
+            } else {
+                drop(outs);
+                None
+            }
+        }
         other => {
             drop(other);
             None
